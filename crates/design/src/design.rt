@@ -1,0 +1,25 @@
+ghost use mathlib.Core.Path.{_≡_};
+ghost use mathlib.Core.Bool.{true};
+ghost use Prim.Native.Nat.{_*_, _≤_};
+ghost use Rattle.model.specs.Core.{sound, flops};
+ghost use Rattle.design.specs.Tables.{core-of};
+use crate::tables::Tables;
+use levels::Tri;
+use model::Driver;
+use model::Net;
+use model::RamWord;
+
+// A tag's core, sound by its type.
+#[derive(Clone, Copy)]
+pub struct Design {
+    pub(crate) tables: Tables,
+    ghost net_count: { tables .«net_count» ≤ 4096 },
+    ghost rom_bits: { tables .«rom_bits» ≤ 10 },
+    ghost rom_count: { tables .«rom_count» ≤ 1024 },
+    ghost ram_bits: { tables .«ram_bits» ≤ 8 },
+    ghost ram_count: { tables .«ram_count» ≤ 256 },
+    ghost pilot_count: { tables .«pilot_count» ≤ 16 },
+    ghost flop_count: { tables .«flop_count» ≡ flops (core-of tables) },
+    ghost start_count: { tables .«start_count» * tables .«flop_count» ≤ 32768 },
+    ghost sound: { sound (core-of tables) ≡ true },
+}
