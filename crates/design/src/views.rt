@@ -1,4 +1,6 @@
 ghost use mathlib.Core.Path.{_≡_};
+ghost use Prim.Native.Nat.{_/_};
+ghost use lib.ListN.{length};
 ghost use Rattle.model.specs.Core.{places, flops};
 ghost use Rattle.design.specs.Views.{core};
 use crate::design::Design;
@@ -40,6 +42,36 @@ impl Design {
         Design { tables }
     }
 
+    pub fn clock(&self) -> u16
+        ensures { λ r. ⌜ r ≡ core (now (self .entry)) .clock ⌝ }
+    {
+        self.tables.clock
+    }
+
+    pub fn window(&self) -> u16
+        ensures { λ r. ⌜ r ≡ core (now (self .entry)) .window ⌝ }
+    {
+        self.tables.window
+    }
+
+    pub fn rom_energy(&self) -> u16
+        ensures { λ r. ⌜ r ≡ core (now (self .entry)) .rom-energy ⌝ }
+    {
+        self.tables.rom_energy
+    }
+
+    pub fn ram_energy(&self) -> u16
+        ensures { λ r. ⌜ r ≡ core (now (self .entry)) .ram-energy ⌝ }
+    {
+        self.tables.ram_energy
+    }
+
+    pub fn write_energy(&self) -> u16
+        ensures { λ r. ⌜ r ≡ core (now (self .entry)) .write-energy ⌝ }
+    {
+        self.tables.write_energy
+    }
+
     pub fn nets(&self) -> &[Net]
         ensures { λ r. ⌜ now r ≡ core (now (self .entry)) .nets ⌝ }
     {
@@ -52,5 +84,78 @@ impl Design {
     {
         let n = self.tables.rom_count;
         &self.tables.rom[0..n]
+    }
+
+    pub fn ram(&self) -> &[RamWord]
+        ensures { λ r. ⌜ now r ≡ core (now (self .entry)) .ram ⌝ }
+    {
+        let n = self.tables.ram_count;
+        &self.tables.ram[0..n]
+    }
+
+    pub fn rom_address(&self) -> &[u16]
+        ensures { λ r. ⌜ now r ≡ core (now (self .entry)) .rom-address ⌝ }
+    {
+        let n = self.tables.rom_bits;
+        &self.tables.rom_address[0..n]
+    }
+
+    pub fn ram_address(&self) -> &[u16]
+        ensures { λ r. ⌜ now r ≡ core (now (self .entry)) .ram-address ⌝ }
+    {
+        let n = self.tables.ram_bits;
+        &self.tables.ram_address[0..n]
+    }
+
+    pub fn write_enable(&self) -> u16
+        ensures { λ r. ⌜ r ≡ core (now (self .entry)) .write-enable ⌝ }
+    {
+        self.tables.write_enable
+    }
+
+    pub fn write_data(&self) -> &[u16]
+        ensures { λ r. ⌜ now r ≡ core (now (self .entry)) .write-data ⌝ }
+    {
+        &self.tables.write_data
+    }
+
+    pub fn mark(&self) -> u16
+        ensures { λ r. ⌜ r ≡ core (now (self .entry)) .mark ⌝ }
+    {
+        self.tables.mark
+    }
+
+    pub fn pilots(&self) -> &[u16]
+        ensures { λ r. ⌜ now r ≡ core (now (self .entry)) .pilots ⌝ }
+    {
+        let n = self.tables.pilot_count;
+        &self.tables.pilots[0..n]
+    }
+
+    // All starts, one after the other, each with a level for each flop.
+    pub fn starts(&self) -> &[Tri]
+        ensures { λ r. ⌜ now r ≡ core (now (self .entry)) .starts ⌝ }
+    {
+        let n = self.tables.start_count * self.tables.flop_count;
+        &self.tables.starts[0..n]
+    }
+
+    pub fn start_count(&self) -> usize
+        ensures { λ r. ⌜ r ≡ length (core (now (self .entry)) .starts) / flops (core (now (self .entry))) ⌝ }
+    {
+        self.tables.start_count
+    }
+
+    pub fn flop_count(&self) -> usize
+        ensures { λ r. ⌜ r ≡ flops (core (now (self .entry))) ⌝ }
+    {
+        self.tables.flop_count
+    }
+
+    // How many places a state has: the nets, then 16 bits for each RAM word.
+    pub fn places(&self) -> usize
+        ensures { λ r. ⌜ r ≡ places (core (now (self .entry))) ⌝ }
+    {
+        self.tables.net_count + 16 * self.tables.ram_count
     }
 }
