@@ -1,0 +1,26 @@
+-- Counting the nets that pass a test, one by one. Assumes nothing.
+use mathlib.Core.Path.{_≡_, refl, _∙_, ap}
+use mathlib.Core.Bool.{Bool, true, false, cond}
+use mathlib.Core.List.{List}
+use Prim.Native.Nat.{ℕ, _+_, _<_}
+use native.Mathlib.Nat.{zero-add}
+use lib.ListN.{length, getD, drop}
+use Rattle.std.proofs.shelf.Lists.{at-drop-more}
+use Rattle.model.specs.declared.net.Driver.{Driver}
+use Rattle.model.specs.declared.net.Driver.the-variants as driver
+use Rattle.model.specs.declared.net.Net.{Net}
+use Rattle.model.specs.Core.{tally, is-input}
+
+pub tally-more : (f : Driver → Bool) (ns : List Net) (i : ℕ) (n : Net) (b : Bool) → i < length ns → f (getD ns i n .driver) ≡ b →
+    tally f (drop i ns) ≡ cond b 1 0 + tally f (drop (i + 1) ns)
+tally-more f ns i n b h e =
+    at-drop-more (tally f) ns i n h ∙ ap (λ (c : Bool). cond c 1 0 + tally f (drop (i + 1) ns)) e
+
+pub no-input-from : (x : Driver) → (x ≡ driver.Input → ⊥) → is-input x ≡ false
+no-input-from (driver.Gate g) h = refl
+no-input-from (driver.Flop «data») h = refl
+no-input-from (driver.EnabledFlop «data» enable) h = refl
+no-input-from driver.Input h = absurd (h refl)
+no-input-from (driver.RomBit bit) h = refl
+no-input-from (driver.RamBit bit) h = refl
+no-input-from (driver.Constant bit) h = refl
