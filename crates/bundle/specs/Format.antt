@@ -127,10 +127,10 @@ body bs i = take (body-length bs i) (drop (row-offset bs i) bs)
 abbrev pub bundle-refusal : List ℕ → Option Refusal
 bundle-refusal bs =
     first-refusal (
-      ask (header-right bs) fault.Header
-      ∷ (ask (eqb (total-length bs) (length bs)) fault.Length
-      ∷ (ask (leb 7 (rows bs) && leb (rows bs) 32) fault.Rows
-      ∷ (ask-each (row-inside bs) fault.Rows 0 (rows bs)
-      ∷ (ask-each (row-right bs) fault.Kinds 0 (rows bs)
-      ∷ (ask-each (row-placed bs) fault.Bodies 0 (rows bs)
-      ∷ []))))))
+    ask (header-right bs) fault.Header
+    ∷ (ask (eqb (total-length bs) (length bs)) fault.Length
+    ∷ (ask (leb 7 (rows bs) && leb (rows bs) 32) fault.Rows
+    ∷ (ask-each (row-inside bs) fault.Rows 0 (rows bs)
+    ∷ (ask-each (row-right bs) fault.Kinds 0 (rows bs)
+    ∷ (ask-each (row-placed bs) fault.Bodies 0 (rows bs)
+    ∷ []))))))

@@ -114,6 +114,12 @@ sound-parts d e =
       few-starts = leb-true (length (d .starts) / flops d) 8 (s .2);
     }
 
+pub nets-from-sound : (d : Core) → sound d ≡ true → nets-sound d ≡ true
+nets-from-sound d e = five (nets-sound d) (memories-sound d) (wires-sound d) (pilots-sound d) (starts-sound d) e .0
+
+pub memories-from-sound : (d : Core) → sound d ≡ true → memories-sound d ≡ true
+memories-from-sound d e = five (nets-sound d) (memories-sound d) (wires-sound d) (pilots-sound d) (starts-sound d) e .1
+
 -- a gate that net-sound passes: every pin field names a net
 pub gate-pin : (d : Core) (i : ℕ) (g : Gate) → 0 < length (d .nets) → net-sound d i (driver.Gate g) ≡ true → (j : ℕ) → getD (g .pins) j 0 < length (d .nets)
 gate-pin d i g some e j =

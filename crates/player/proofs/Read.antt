@@ -1,21 +1,22 @@
 -- Lines, character by character. Assumes nothing.
 use mathlib.Core.Path.{_≡_, refl, sym, _∙_, ap}
-use mathlib.Core.Bool.{Bool, true, false, _&&_, cond}
+use mathlib.Core.Bool.{Bool, true, false, _&&_}
+use mathlib.Core.Logic.{⊎-elim}
 use mathlib.Core.List.{List, []}
 use Prim.Native.Nat.{ℕ, zero, suc, _+_, _-_, _*_, _/_, _%_, _<_, _≤_, min}
 use native.Mathlib.Omega.{arith}
-use native.Mathlib.Nat.{div-mul-le-self, mul-le-mul-right}
+use native.Mathlib.Nat.{div-mul-le-self, mul-le-mul-right, div-add-mod', lt-div-mul-add, mod-lt}
 use lib.ListN.{length, getD, take, drop}
-use Rattle.std.specs.declared.option.Option.{Option}
-use Rattle.std.specs.declared.option.Option.the-variants.{Some, None}
+use Rattle.std.specs.declared.option.Option.the-variants.{None}
 use Rattle.std.proofs.shelf.Lists.{at-drop-more, at-drop-all, take-rest, getD-drop, getD-past, length-drop}
+use Rattle.std.proofs.shelf.Tests.{and-parts, both-ways, cases-eq}
 use Rattle.levels.specs.declared.Bit.{Bit}
-use Rattle.bundle.specs.declared.refusal.Fault.{Fault}
-use Rattle.bundle.specs.declared.refusal.Refusal.{Refusal}
-use Rattle.bundle.specs.Format.{byte, ask-each, refused-at}
+use Rattle.bundle.specs.Format.{byte}
 use Rattle.player.specs.declared.lines.Character.{Character}
 use Rattle.player.specs.declared.lines.Character.the-variants.{Level, Newline, Other}
-use Rattle.player.specs.Lines.{character, is-level, is-newline, all-levels}
+use Rattle.bundle.specs.declared.refusal.Fault.the-variants as fault
+use Rattle.bundle.proofs.Asked.{all-good}
+use Rattle.player.specs.Lines.{character, is-level, is-newline, all-levels, line-whole, line-count, lines-refusal}
 
 pub level-from : (x : Character) (v : Bit) → x ≡ Level v → is-level x ≡ true
 level-from x v e = ap is-level e
@@ -33,20 +34,6 @@ levels-stop bs i h e = at-drop-more all-levels bs i 0 h ∙ ap (λ (b : Bool). b
 
 pub levels-end : (bs : List ℕ) (i : ℕ) → length bs ≤ i → all-levels (drop i bs) ≡ true
 levels-end bs i h = at-drop-all all-levels bs i h
-
--- a question put to entry i, and to those after it
-pub ask-good : (good : ℕ → Bool) (f : Fault) (i n m : ℕ) → n ≡ m + 1 → good i ≡ true → ask-each good f (i + 1) m ≡ ask-each good f i n
-ask-good good f i zero m e h = absurd (omega arith)
-ask-good good f i (suc n) m e h =
-    let same : m ≡ n = omega arith in
-    ap (ask-each good f (i + 1)) same ∙ sym (ap (λ (b : Bool). cond b (ask-each good f (i + 1) n) (Some (refused-at f i))) h)
-
-pub ask-bad : (good : ℕ → Bool) (f : Fault) (i n : ℕ) → 0 < n → good i ≡ false → ask-each good f i n ≡ Some (refused-at f i)
-ask-bad good f i zero e h = absurd (omega arith)
-ask-bad good f i (suc n) e h = ap (λ (b : Bool). cond b (ask-each good f (i + 1) n) (Some (refused-at f i))) h
-
-pub ask-none : (good : ℕ → Bool) (f : Fault) (i n : ℕ) → n ≡ 0 → ask-each good f i n ≡ None
-ask-none good f i n e = ap (ask-each good f i) e
 
 and-false : (b : Bool) → (b && false) ≡ false
 and-false true = refl
@@ -81,3 +68,21 @@ and-true false = refl
 
 pub newline-ends : (b : Bool) (x : Character) → x ≡ Newline → b ≡ (b && is-newline x)
 newline-ends b x e = and-true b ∙ ap (λ (y : Character). b && is-newline y) (sym e)
+
+-- a newline lies inside the text
+newline-inside : (text : List ℕ) (i : ℕ) → length text ≤ i → is-newline (character (byte text i)) ≡ true → ⊥
+newline-inside text i h e = both-ways (is-newline (character (byte text i))) (ap (λ (b : ℕ). is-newline (character b)) (getD-past text i 0 h)) e
+
+-- text whose every line is whole is just these lines
+pub whole-lines : (n : ℕ) (text : List ℕ) → lines-refusal n text ≡ None → line-count n text * (n + 1) ≤ length text
+whole-lines n text none =
+    ⊎-elim
+    (λ (e : length text % (n + 1) ≡ 0).
+    let count : line-count n text ≡ length text / (n + 1) = omega arith in
+    omega (arith, ap (λ (k : ℕ). k * (n + 1)) count, div-mul-le-self (length text) (n + 1)))
+    (λ (ne : length text % (n + 1) ≡ 0 → ⊥).
+    let l : ℕ = length text / (n + 1) in
+    let good : line-whole n text l ≡ true = all-good (line-whole n text) fault.Lines 0 (line-count n text) none l (omega arith) (omega arith) in
+    let past : length text < l * (n + 1) + (n + 1) = lt-div-mul-add (omega arith) in
+    absurd (newline-inside text (l * (n + 1) + n) (omega arith) (and-parts _ (is-newline (character (byte text (l * (n + 1) + n)))) good .1)))
+    (cases-eq (length text % (n + 1)) 0)

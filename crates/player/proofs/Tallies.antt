@@ -1,9 +1,9 @@
 -- Counting the nets that pass a test, one by one. Assumes nothing.
 use mathlib.Core.Path.{_≡_, refl, _∙_, ap}
 use mathlib.Core.Bool.{Bool, true, false, cond}
-use mathlib.Core.List.{List}
-use Prim.Native.Nat.{ℕ, _+_, _<_}
-use native.Mathlib.Nat.{zero-add}
+use mathlib.Core.List.{List, [], _∷_}
+use Prim.Native.Nat.{ℕ, suc, _+_, _<_, _≤_}
+use native.Mathlib.Omega.{arith}
 use lib.ListN.{length, getD, drop}
 use Rattle.std.proofs.shelf.Lists.{at-drop-more}
 use Rattle.model.specs.declared.net.Driver.{Driver}
@@ -24,3 +24,11 @@ no-input-from driver.Input h = absurd (h refl)
 no-input-from (driver.RomBit bit) h = refl
 no-input-from (driver.RamBit bit) h = refl
 no-input-from (driver.Constant bit) h = refl
+
+pub tally-few : (f : Driver → Bool) (ns : List Net) → tally f ns ≤ length ns
+tally-few f [] = omega arith
+tally-few f (n ∷ ns) = one (f (n .driver)) (tally f ns) (length ns) (tally-few f ns)
+  where
+    one : (b : Bool) (m k : ℕ) → m ≤ k → cond b 1 0 + m ≤ suc k
+    one true m k h = omega arith
+    one false m k h = omega arith

@@ -1,6 +1,6 @@
 -- Lines of inputs: one line a cycle, one character an input. Assumes nothing.
 use mathlib.Core.Bool.{Bool, true, false, _&&_, cond}
-use mathlib.Core.List.{List, [], _∷_, map}
+use mathlib.Core.List.{List}
 use Prim.Native.Nat.{ℕ, _+_, _*_, _/_, _%_, min}
 use lib.Dec.{eqb}
 use lib.ListN.{length, take, drop}
@@ -53,7 +53,3 @@ line-count n text = length text / (n + 1) + min 1 (length text % (n + 1))
 -- every line is whole, or the first that is not is refused
 abbrev pub lines-refusal : ℕ → List ℕ → Option Refusal
 lines-refusal n text = ask-each (line-whole n text) fault.Lines 0 (line-count n text)
-
--- the levels that line l gives
-abbrev pub line-levels : ℕ → List ℕ → ℕ → List Bit
-line-levels n text l = map (λ b. level-of (character b)) (line-bytes n text l)

@@ -3,10 +3,9 @@ ghost use mathlib.Core.Bool.{true, _&&_};
 ghost use Prim.Native.Nat.{_+_, _*_, _^_, _≤_, _<_};
 ghost use mathlib.Core.List.{map};
 ghost use lib.ListN.{length, take, drop};
-ghost use Rattle.std.specs.Results.{Cases};
-ghost use Rattle.std.specs.declared.option.Option.the-variants.{Some, None};
+ghost use Rattle.std.specs.Results.{errPart};
 ghost use Rattle.bundle.specs.Format.{byte};
-ghost use Rattle.player.specs.Lines.{character, level-of, all-levels, is-newline, line-start, line-whole, line-count, lines-refusal};
+ghost use Rattle.player.specs.Lines.{character, level-of, all-levels, is-newline, line-bytes, line-count, lines-refusal};
 use bundle::Fault;
 use bundle::Refusal;
 use levels::Bit;
@@ -69,19 +68,25 @@ fn is_whole(text: &[u8], inputs: usize, start: usize) -> bool
     }
 }
 
-// How many lines there are, if every line is whole; else the first that is not is refused.
-pub(crate) fn check_lines(text: &[u8], inputs: usize) -> Result<usize, Refusal>
+// How many lines there are, a last one cut short among them.
+pub(crate) fn count_lines(text: &[u8], inputs: usize) -> usize
     requires { ⌜ inputs ≤ 4096 ⌝ }
-    ensures { λ r. ⌜ Cases r (λ m. (lines-refusal inputs (now (text .entry)) ≡ None) × (m ≡ line-count inputs (now (text .entry)))) (λ e. lines-refusal inputs (now (text .entry)) ≡ Some e) ⌝ }
+    ensures { λ r. ⌜ r ≡ line-count inputs (now (text .entry)) ⌝ }
 {
-    let size = inputs + 1;
-    let count = text.len().div_ceil(size);
-    for line in 0..count {
-        if !is_whole(text, inputs, line * size) {
+    text.len().div_ceil(inputs + 1)
+}
+
+// Every line is whole, or the first that is not is refused.
+pub(crate) fn check_lines(text: &[u8], inputs: usize) -> Result<(), Refusal>
+    requires { ⌜ inputs ≤ 4096 ⌝ }
+    ensures { λ r. ⌜ errPart r ≡ lines-refusal inputs (now (text .entry)) ⌝ }
+{
+    for line in 0..count_lines(text, inputs) {
+        if !is_whole(text, inputs, line * (inputs + 1)) {
             return Err(Refusal { fault: Fault::Lines, place: line });
         }
     }
-    Ok(count)
+    Ok(())
 }
 
 // The levels that a line's characters stand for.
@@ -92,4 +97,14 @@ pub(crate) fn read_levels(line: &[u8], levels: &mut [Bit])
     for (i, byte) in line.iter().enumerate() {
         levels[i] = read_character(*byte).level();
     }
+}
+
+// The characters of a line, without its newline.
+pub(crate) fn line_of(text: &[u8], inputs: usize, line: usize) -> &[u8]
+    requires { ⌜ (line + 1) * (inputs + 1) ≤ length (now text) ⌝ }
+    ensures value { λ r. ⌜ now r ≡ line-bytes inputs (now (text .entry)) line ⌝ }
+    ensures len { λ r. ⌜ length (now r) ≡ inputs ⌝ }
+{
+    let first = line * (inputs + 1);
+    &text[first..first + inputs]
 }
