@@ -1,6 +1,6 @@
 -- The core that a design's tables hold. Assumes nothing.
-use Prim.Native.Nat.{ℕ, _*_}
-use lib.ListN.{take}
+use Prim.Native.Nat.{_+_, _*_}
+use lib.ListN.{getD, take, drop}
 use Rattle.model.specs.Core.{Core}
 use Rattle.design.specs.declared.tables.Tables.{Tables}
 
@@ -14,11 +14,11 @@ core-of t = record {
   nets = take (t .«net_count») (t .nets);
   rom = take (t .«rom_count») (t .rom);
   ram = take (t .«ram_count») (t .ram);
-  rom-address = take (t .«rom_bits») (t .«rom_address»);
-  ram-address = take (t .«ram_bits») (t .«ram_address»);
-  write-enable = t .«write_enable»;
-  write-data = t .«write_data»;
-  mark = t .mark;
-  pilots = take (t .«pilot_count») (t .pilots);
+  rom-address = take (t .«rom_bits») (t .wires);
+  ram-address = take (t .«ram_bits») (drop (t .«rom_bits») (t .wires));
+  write-enable = getD (t .wires) (t .«rom_bits» + t .«ram_bits») 0;
+  write-data = take 16 (drop (t .«rom_bits» + t .«ram_bits» + 1) (t .wires));
+  mark = getD (t .pilots) 0 0;
+  pilots = take (t .«pilot_count») (drop 1 (t .pilots));
   starts = take (t .«start_count» * t .«flop_count») (t .starts);
 }

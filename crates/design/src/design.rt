@@ -5,15 +5,11 @@ ghost use lib.ListN.{length};
 ghost use Rattle.model.specs.Core.{sound, flops};
 ghost use Rattle.design.specs.Tables.{core-of};
 use crate::tables::Tables;
-use levels::Tri;
-use model::Driver;
-use model::Net;
-use model::RamWord;
 
 // A tag's core, sound by its type.
 #[derive(Clone, Copy)]
 pub struct Design {
-    pub(crate) tables: Tables,
+    pub tables: Tables,
     ghost net_count: { tables .«net_count» ≤ 4096 },
     ghost rom_bits: { tables .«rom_bits» ≤ 10 },
     ghost rom_count: { tables .«rom_count» ≤ 1024 },

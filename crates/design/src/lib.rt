@@ -1,6 +1,7 @@
-// A bundle, decoded and checked once into typed tables.
+// A tag's core in typed tables, sound by its type.
 mod design;
 mod tables;
 mod views;
 
 pub use design::Design;
+pub use tables::Tables;

@@ -19,13 +19,11 @@ pub struct Tables {
     pub ram_bits: usize,
     pub ram_count: usize,
     pub ram: [RamWord; 256],
-    pub rom_address: [u16; 10],
-    pub ram_address: [u16; 8],
-    pub write_enable: u16,
-    pub write_data: [u16; 16],
-    pub mark: u16,
+    // the ROM address nets, the RAM address nets, the write enable and 16 data nets
+    pub wires: [u16; 35],
+    // the mark, then the pilots
     pub pilot_count: usize,
-    pub pilots: [u16; 16],
+    pub pilots: [u16; 17],
     pub flop_count: usize,
     pub start_count: usize,
     pub starts: [Tri; 32768],

@@ -2,7 +2,7 @@ ghost use mathlib.Core.Path.{_≡_};
 ghost use Prim.Native.Nat.{_/_};
 ghost use lib.ListN.{length};
 ghost use Rattle.model.specs.Core.{places, flops};
-ghost use Rattle.design.specs.Views.{core};
+ghost use Rattle.design.specs.Views.{core, smallest};
 use crate::design::Design;
 use crate::tables::Tables;
 use levels::Tri;
@@ -12,8 +12,15 @@ use model::RamWord;
 
 impl Design {
     // The smallest design: a halt flop that holds 0, memories of one zero word, one start.
-    pub fn new() -> Design {
-        let halt = Net { driver: Driver::Flop { data: 0 }, rise: 0, fall: 0, idle: 0 };
+    pub fn new() -> Design
+        ensures { λ r. ⌜ core r ≡ smallest ⌝ }
+    {
+        let halt = Net {
+            driver: Driver::Flop { data: 0 },
+            rise: 0,
+            fall: 0,
+            idle: 0,
+        };
         let tables = Tables {
             clock: 1,
             window: 1,
@@ -27,14 +34,13 @@ impl Design {
             rom: [0; 1024],
             ram_bits: 0,
             ram_count: 1,
-            ram: [RamWord { value: 0, unknown: 0 }; 256],
-            rom_address: [0; 10],
-            ram_address: [0; 8],
-            write_enable: 0,
-            write_data: [0; 16],
-            mark: 0,
+            ram: [RamWord {
+                value: 0,
+                unknown: 0,
+            }; 256],
+            wires: [0; 35],
             pilot_count: 1,
-            pilots: [0; 16],
+            pilots: [0; 17],
             flop_count: 1,
             start_count: 1,
             starts: [Tri::Zero; 32768],
@@ -96,48 +102,51 @@ impl Design {
     pub fn rom_address(&self) -> &[u16]
         ensures { λ r. ⌜ now r ≡ core (now (self .entry)) .rom-address ⌝ }
     {
-        let n = self.tables.rom_bits;
-        &self.tables.rom_address[0..n]
+        let rom = self.tables.rom_bits;
+        &self.tables.wires[0..rom]
     }
 
     pub fn ram_address(&self) -> &[u16]
         ensures { λ r. ⌜ now r ≡ core (now (self .entry)) .ram-address ⌝ }
     {
-        let n = self.tables.ram_bits;
-        &self.tables.ram_address[0..n]
+        let rom = self.tables.rom_bits;
+        let ram = self.tables.ram_bits;
+        &self.tables.wires[rom..rom + ram]
     }
 
     pub fn write_enable(&self) -> u16
         ensures { λ r. ⌜ r ≡ core (now (self .entry)) .write-enable ⌝ }
     {
-        self.tables.write_enable
+        self.tables
+            .wires[self.tables.rom_bits + self.tables.ram_bits]
     }
 
     pub fn write_data(&self) -> &[u16]
         ensures { λ r. ⌜ now r ≡ core (now (self .entry)) .write-data ⌝ }
     {
-        &self.tables.write_data
+        let first = self.tables.rom_bits + self.tables.ram_bits + 1;
+        &self.tables.wires[first..first + 16]
     }
 
     pub fn mark(&self) -> u16
         ensures { λ r. ⌜ r ≡ core (now (self .entry)) .mark ⌝ }
     {
-        self.tables.mark
+        self.tables.pilots[0]
     }
 
     pub fn pilots(&self) -> &[u16]
         ensures { λ r. ⌜ now r ≡ core (now (self .entry)) .pilots ⌝ }
     {
         let n = self.tables.pilot_count;
-        &self.tables.pilots[0..n]
+        &self.tables.pilots[1..n + 1]
     }
 
     // All starts, one after the other, each with a level for each flop.
     pub fn starts(&self) -> &[Tri]
         ensures { λ r. ⌜ now r ≡ core (now (self .entry)) .starts ⌝ }
     {
-        let n = self.tables.start_count * self.tables.flop_count;
-        &self.tables.starts[0..n]
+        let tables = &self.tables;
+        &tables.starts[0..tables.start_count * tables.flop_count]
     }
 
     pub fn start_count(&self) -> usize

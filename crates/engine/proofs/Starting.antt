@@ -1,8 +1,8 @@
 -- A start's levels, net by net and word by word. Assumes nothing.
-use mathlib.Core.Path.{_≡_, refl, sym, ap, subst, _∙_}
+use mathlib.Core.Path.{_≡_, refl, sym, ap, _∙_}
 use mathlib.Core.Bool.{Bool, true, false, cond}
 use mathlib.Core.List.{List, [], _∷_, _++_, map}
-use mathlib.Core.Logic.{_≢_, _⊎_, ⊎-elim}
+use mathlib.Core.Logic.{_⊎_, ⊎-elim}
 use Prim.Native.Nat.{ℕ, zero, suc, _+_, _-_, _*_, _/_, _%_, _<_, _≤_}
 use native.Mathlib.Nat.{mul-comm}
 use native.Mathlib.Numerals.{add-one}
@@ -116,13 +116,13 @@ flop-read d starts same p q t e h =
 -- ---- the RAM
 
 -- the bits of the RAM below q stand as they begin
-abbrev pub Woken : {V : Type 0} → Kind V → Core → ℕ → List V → Type 0
-Woken k d q s = (p : ℕ) → p < q → at k s (length (d .nets) + p) ≡ ram-begun k d (getD (d .ram) (p / 16) no-word) (p % 16)
+abbrev pub Ram-begun : {V : Type 0} → Kind V → Core → ℕ → List V → Type 0
+Ram-begun k d q s = (p : ℕ) → p < q → at k s (length (d .nets) + p) ≡ ram-begun k d (getD (d .ram) (p / 16) no-word) (p % 16)
 
-pub woken-more : {V : Type 0} (k : Kind V) (d : Core) (q : ℕ) (s : List V) (v : V) (place : ℕ) → place ≡ length (d .nets) + q → place < length s
+pub ram-begun-more : {V : Type 0} (k : Kind V) (d : Core) (q : ℕ) (s : List V) (v : V) (place : ℕ) → place ≡ length (d .nets) + q → place < length s
     → (ram : List RamWord) → ram ≡ d .ram → (w : RamWord) → q / 16 < length ram → v ≡ ram-begun k d (getD ram (q / 16) w) (q % 16)
-    → Woken k d q s → Woken k d (q + 1) (set s place v)
-woken-more k d q s v place e within ram same w inside level below =
+    → Ram-begun k d q s → Ram-begun k d (q + 1) (set s place v)
+ram-begun-more k d q s v place e within ram same w inside level below =
     let word : getD ram (q / 16) w ≡ getD (d .ram) (q / 16) no-word =
     getD-default ram (q / 16) w no-word inside ∙ ap (λ (ws : List RamWord). getD ws (q / 16) no-word) same in
     below-more (λ (p : ℕ). at k (set s place v) (length (d .nets) + p) ≡ ram-begun k d (getD (d .ram) (p / 16) no-word) (p % 16)) q
@@ -132,7 +132,7 @@ woken-more k d q s v place e within ram same w inside level below =
 -- ---- the whole state before the gates settle
 
 pub begun-all : {V : Type 0} (k : Kind V) (d : Core) (number : ℕ) (s : List V) → length s ≡ places d → Begun k d number (length (d .nets)) s
-    → Woken k d (16 * length (d .ram)) s
+    → Ram-begun k d (16 * length (d .ram)) s
     → s ≡ map (λ i. begun k d number i (driver-at d i)) (counting 0 (length (d .nets)))
     ++ map (λ q. ram-begun k d (getD (d .ram) (q / 16) no-word) (q % 16)) (counting 0 (16 * length (d .ram)))
 begun-all {V} k d number s long nets words =

@@ -13,7 +13,7 @@ use bundle::Refusal;
 use design::Design;
 use levels::Level;
 
-// A cycle that leaves its scratch as it falls.
+// One cycle, which may leave any levels in the scratch.
 fn step<V: Level>(
     design: &Design,
     state: &mut [V],

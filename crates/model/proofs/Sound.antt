@@ -79,13 +79,13 @@ sound-parts d e =
     let all = five (nets-sound d) (memories-sound d) (wires-sound d) (pilots-sound d) (starts-sound d) e in
     let n = three (ltb 0 (length (d .nets))) (leb (length (d .nets)) 4096) (all-below (length (d .nets)) (λ i. net-sound d i (driver-at d i))) (all .0) in
     let m = four (eqb (length (d .rom)) (2 ^ length (d .rom-address))) (leb (length (d .rom-address)) 10)
-        (eqb (length (d .ram)) (2 ^ length (d .ram-address))) (leb (length (d .ram-address)) 8) (all .1) in
+    (eqb (length (d .ram)) (2 ^ length (d .ram-address))) (leb (length (d .ram-address)) 8) (all .1) in
     let w = five (on-nets d (d .rom-address)) (on-nets d (d .ram-address)) (ltb (d .write-enable) (length (d .nets)))
-        (eqb (length (d .write-data)) 16) (on-nets d (d .write-data)) (all .2) in
+    (eqb (length (d .write-data)) 16) (on-nets d (d .write-data)) (all .2) in
     let p = five (ltb (d .mark) (length (d .nets))) (ltb 0 (length (d .pilots))) (leb (length (d .pilots)) 16)
-        (every (λ q. ltb q (length (d .nets)) && is-flop (driver-at d q)) (d .pilots)) (distinct (d .pilots)) (all .3) in
+    (every (λ q. ltb q (length (d .nets)) && is-flop (driver-at d q)) (d .pilots)) (distinct (d .pilots)) (all .3) in
     let s = four (eqb (length (d .starts) % flops d) 0) (ltb 0 (length (d .starts))) (leb (length (d .starts) / flops d) 8)
-        (all-below (length (d .starts) / flops d) (λ j. every (λ q. known (getD (d .starts) (j * flops d + flops-below d q) X)) (d .pilots))) (all .4) in
+    (all-below (length (d .starts) / flops d) (λ j. every (λ q. known (getD (d .starts) (j * flops d + flops-below d q) X)) (d .pilots))) (all .4) in
     let some : 0 < length (d .nets) = ltb-true 0 (length (d .nets)) (n .0) in
     record {
       some-nets = some;
@@ -106,7 +106,7 @@ sound-parts d e =
       pilot = λ i h.
           let q : ℕ = getD (d .pilots) i 0 in
           let b = and-parts (ltb q (length (d .nets))) (is-flop (driver-at d q))
-              (every-at (λ q. ltb q (length (d .nets)) && is-flop (driver-at d q)) (d .pilots) i 0 (p .3) h) in
+          (every-at (λ q. ltb q (length (d .nets)) && is-flop (driver-at d q)) (d .pilots) i 0 (p .3) h) in
           (ltb-true q (length (d .nets)) (b .0), b .1);
       pilots-distinct = p .4;
       whole-starts = eqb-true (length (d .starts) % flops d) 0 (s .0);

@@ -159,7 +159,7 @@ abbrev pub starts-sound : Core → Bool
 starts-sound d =
     eqb (length (d .starts) % flops d) 0 && ltb 0 (length (d .starts)) && leb (length (d .starts) / flops d) 8
     && all-below (length (d .starts) / flops d)
-        (λ j. every (λ p. known (getD (d .starts) (j * flops d + flops-below d p) X)) (d .pilots))
+    (λ j. every (λ p. known (getD (d .starts) (j * flops d + flops-below d p) X)) (d .pilots))
 
 abbrev pub sound : Core → Bool
 sound d = nets-sound d && memories-sound d && wires-sound d && pilots-sound d && starts-sound d

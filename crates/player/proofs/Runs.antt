@@ -22,20 +22,22 @@ use Rattle.player.specs.Run.{next-state, shown-cycle, cycles-from, state-from,
 module _ (d : Core) (text : List ℕ) where
   pub stops : (l n : ℕ) (s : List Bit) → halted bit-kind d s ≡ true → (cycles-from d text l n s ≡ []) × (state-from d text l n s ≡ s)
   stops l zero s h = (refl, refl)
-  stops l (suc n) s h =
-      (ap (λ (b : Bool). cond b [] (shown-cycle d s (next-state d text l s) ∷ cycles-from d text (l + 1) n (next-state d text l s))) h,
-      ap (λ (b : Bool). cond b s (state-from d text (l + 1) n (next-state d text l s))) h)
+  stops l (suc n) s h = (
+    ap (λ (b : Bool). cond b [] (shown-cycle d s (next-state d text l s) ∷ cycles-from d text (l + 1) n (next-state d text l s))) h,
+    ap (λ (b : Bool). cond b s (state-from d text (l + 1) n (next-state d text l s))) h,
+  )
 
   pub goes-on : (l n m : ℕ) (s : List Bit) → n ≡ m + 1 → halted bit-kind d s ≡ false →
       (cycles-from d text l n s ≡ shown-cycle d s (next-state d text l s) ∷ cycles-from d text (l + 1) m (next-state d text l s))
       × (state-from d text l n s ≡ state-from d text (l + 1) m (next-state d text l s))
   goes-on l zero m s e h = absurd (omega arith)
   goes-on l (suc n) m s e h =
-      let same : n ≡ m = omega arith in
-      (ap (λ (b : Bool). cond b [] (shown-cycle d s (next-state d text l s) ∷ cycles-from d text (l + 1) n (next-state d text l s))) h
-      ∙ ap (λ (k : ℕ). shown-cycle d s (next-state d text l s) ∷ cycles-from d text (l + 1) k (next-state d text l s)) same,
-      ap (λ (b : Bool). cond b s (state-from d text (l + 1) n (next-state d text l s))) h
-      ∙ ap (λ (k : ℕ). state-from d text (l + 1) k (next-state d text l s)) same)
+      let same : n ≡ m = omega arith in (
+        ap (λ (b : Bool). cond b [] (shown-cycle d s (next-state d text l s) ∷ cycles-from d text (l + 1) n (next-state d text l s))) h
+            ∙ ap (λ (k : ℕ). shown-cycle d s (next-state d text l s) ∷ cycles-from d text (l + 1) k (next-state d text l s)) same,
+        ap (λ (b : Bool). cond b s (state-from d text (l + 1) n (next-state d text l s))) h
+            ∙ ap (λ (k : ℕ). state-from d text (l + 1) k (next-state d text l s)) same,
+      )
 
   -- line i of m is next: what is written and what is left make the run, and the cycles not written yet stay
   pub record Running (m : ℕ) (s : List Bit) (old : List Cycle) (i : ℕ) (now : List Bit) (cycles : List Cycle) : Type 0 where
@@ -48,7 +50,7 @@ module _ (d : Core) (text : List ℕ) where
       Ran d text m s i now old cycles
   ran-from m i s now old cycles h none here r =
       let whole : take i cycles ≡ cycles-from d text 0 m s =
-          sym (append-nil (take i cycles)) ∙ ap (λ (xs : List Cycle). take i cycles ++ xs) (sym none) ∙ r .played in
+      sym (append-nil (take i cycles)) ∙ ap (λ (xs : List Cycle). take i cycles ++ xs) (sym none) ∙ r .played in
       record {
         count = sym (length-take-le i cycles h) ∙ ap length whole;
         last-state = sym here ∙ r .ends;
@@ -70,7 +72,7 @@ module _ (d : Core) (text : List ℕ) where
       let on = goes-on i (m - i) (m - (i + 1)) now (omega arith) h in
       let here : cycle ≡ shown-cycle d now (next-state d text i now) = shows ∙ ap (shown-cycle d now) e in
       let left : (cycle ∷ cycles-from d text (i + 1) (m - (i + 1)) next) ≡ cycles-from d text i (m - i) now =
-          ap₂ (λ (x : Cycle) (t : List Bit). x ∷ cycles-from d text (i + 1) (m - (i + 1)) t) here e ∙ sym (on .0) in
+      ap₂ (λ (x : Cycle) (t : List Bit). x ∷ cycles-from d text (i + 1) (m - (i + 1)) t) here e ∙ sym (on .0) in
       record {
         played =
             ap (λ (xs : List Cycle). xs ++ cycles-from d text (i + 1) (m - (i + 1)) next) (take-more-set cycles i cycle inside)

@@ -83,7 +83,10 @@ pub(crate) fn check_lines(text: &[u8], inputs: usize) -> Result<(), Refusal>
 {
     for line in 0..count_lines(text, inputs) {
         if !is_whole(text, inputs, line * (inputs + 1)) {
-            return Err(Refusal { fault: Fault::Lines, place: line });
+            return Err(Refusal {
+                fault: Fault::Lines,
+                place: line,
+            });
         }
     }
     Ok(())

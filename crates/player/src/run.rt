@@ -42,7 +42,12 @@ fn count_inputs(nets: &[Net]) -> usize
 }
 
 // One cycle: the line's characters are the levels of the inputs.
-fn step(design: &Design, line: &[u8], state: &mut [Bit], scratch: &mut [Bit]) -> Result<Cycle, Refusal>
+fn step(
+    design: &Design,
+    line: &[u8],
+    state: &mut [Bit],
+    scratch: &mut [Bit],
+) -> Result<Cycle, Refusal>
     requires state { ⌜ length (now state) ≡ places (core (now design)) ⌝ }
     requires line { ⌜ length (now line) ≡ input-count (core (now design)) ⌝ }
     requires scratch { ⌜ 2 * places (core (now design)) + 1024 ≤ length (now scratch) ⌝ }
@@ -110,7 +115,10 @@ fn play_lines(
     let inputs = count_inputs(design.nets());
     let lines = count_lines(text, inputs);
     if !is_room(design, lines, state.len(), scratch.len(), cycles.len()) {
-        return Err(Refusal { fault: Fault::Memory, place: 0 });
+        return Err(Refusal {
+            fault: Fault::Memory,
+            place: 0,
+        });
     }
     check_lines(text, inputs)?;
     start(design, 0, state)?;

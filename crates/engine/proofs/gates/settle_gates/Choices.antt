@@ -1,5 +1,5 @@
 use mathlib.Core.Path.{_≡_}
-use lib.ListN.{drop, length}
+use lib.ListN.{drop}
 use Rattle.model.specs.Cycle.{settled-from}
 use Rattle.design.specs.Views.{core}
 use Rattle.engine.proofs.gates.settle_gates.Given as given

@@ -1,12 +1,11 @@
-use mathlib.Core.Path.{_≡_, sym, ap, subst, _∙_}
+use mathlib.Core.Path.{_≡_, ap, _∙_}
 use mathlib.Core.Bool.{Bool, cond}
 use mathlib.Core.List.{List}
-use Prim.Native.Nat.{ℕ, _+_, _*_, _^_, _<_, _≤_}
+use Prim.Native.Nat.{ℕ, _*_, _^_, _<_}
 use native.Mathlib.Omega.{arith}
 use lib.ListN.{length, getD, drop}
 use Rattle.std.proofs.shelf.Lists.{getD-read, at-drop-all}
 use Rattle.model.specs.Cycle.{at, key-from}
-use Rattle.model.proofs.Sound.{sound-parts}
 use Rattle.design.specs.Views.{core}
 use Rattle.engine.proofs.Keying.{More, pilot-wired, key-more}
 use Rattle.engine.proofs.keys.pilots_key.Given as given

@@ -1,10 +1,7 @@
-use mathlib.Core.Path.{_≡_, sym, ap, refl, _∙_}
-use mathlib.Core.Bool.{Bool, cond}
-use Prim.Native.Nat.{ℕ, _<_}
+use mathlib.Core.Path.{sym, ap, refl, _∙_}
 use native.Mathlib.Omega.{arith}
 use lib.ListN.{length}
 use Rattle.std.proofs.shelf.Tests.{eq-eqb, cond-true}
-use Rattle.bundle.specs.declared.refusal.Refusal.{Refusal}
 use Rattle.model.specs.Core.{places}
 use Rattle.model.specs.Cycle.{settled}
 use Rattle.design.specs.Views.{core}

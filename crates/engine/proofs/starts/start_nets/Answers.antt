@@ -1,13 +1,13 @@
 use mathlib.Core.Path.{_≡_, sym, ap, _∙_}
-use mathlib.Core.Bool.{Bool, true, cond}
-use Prim.Native.Nat.{ℕ, _+_, _*_, _<_}
+use mathlib.Core.Bool.{Bool, cond}
+use Prim.Native.Nat.{ℕ, _*_, _<_}
 use native.Mathlib.Omega.{arith}
 use borrow.Author.Needs.{needs}
 use lib.ListN.{length}
 use Rattle.model.specs.declared.net.Driver.{Driver}
 use Rattle.model.specs.declared.net.Driver.the-variants as driver
-use Rattle.model.specs.Core.{flops, flops-below, driver-at, is-flop}
-use Rattle.model.specs.Cycle.{at, begun, of-start}
+use Rattle.model.specs.Core.{driver-at, is-flop}
+use Rattle.model.specs.Cycle.{begun, of-start}
 use Rattle.design.specs.Views.{core}
 use Rattle.engine.proofs.Starting.{flops-more, flop-place, begun-flop, begun-blank, begun-more, driver-here, flop-read, starts-room}
 use Rattle.engine.proofs.starts.start_nets.Needs as need

@@ -1,11 +1,11 @@
-use mathlib.Core.Path.{_≡_, sym, ap, _∙_}
-use Prim.Native.Nat.{ℕ, _+_, _/_, _*_, _<_}
+use mathlib.Core.Path.{ap, _∙_}
+use Prim.Native.Nat.{_+_, _/_, _<_}
 use native.Mathlib.Omega.{arith}
 use borrow.Author.Needs.{needs}
 use lib.ListN.{length}
 use Rattle.std.proofs.shelf.Lists.{getD-set-other}
 use Rattle.design.specs.Views.{core}
-use Rattle.engine.proofs.Starting.{woken-more}
+use Rattle.engine.proofs.Starting.{ram-begun-more}
 use Rattle.engine.proofs.starts.start_ram.Needs as need
 
 pub offset-state-first : need.offset-state-first
@@ -23,7 +23,7 @@ loop-q-again g c =
     let ram = ap length (c .ram-ram .ensures) in
     let inside : c .loop-q .q / 16 < length (c .ram-ram .result .now) = omega arith in (
       (λ i h. getD-set-other s _ i _ (k .blank) (omega arith) ∙ c .loop-q .inv .0 i h),
-      woken-more k d (c .loop-q .q) s (c .ram-level .result) _ (omega arith) (omega arith) (c .ram-ram .result .now) (c .ram-ram .ensures) _ inside (c .ram-level .ensures d) (c .loop-q .inv .1),
+      ram-begun-more k d (c .loop-q .q) s (c .ram-level .result) _ (omega arith) (omega arith) (c .ram-ram .result .now) (c .ram-ram .ensures) _ inside (c .ram-level .ensures d) (c .loop-q .inv .1),
     )
 
 pub returns : need.returns

@@ -10,13 +10,13 @@ use Rattle.player.proofs.run.count_inputs.Needs.{in-Input, in-rest}
 pub loop-net-again : need.loop-net-again
 loop-net-again c =
     elim (c .match-net .came) [
-        in-Input w ↦
-            let more = tally-more is-input (c .args .nets .now) (c .loop-net .net-index) _ true (c .loop-net-test .taken) (ap is-input (w .in-Input .is)) in
-            (omega (arith, w .count-is, c .loop-net .inv .0), omega (arith, w .count-is))
-        | in-rest w ↦
-            let more = tally-more is-input (c .args .nets .now) (c .loop-net .net-index) _ false (c .loop-net-test .taken)
-                (no-input-from _ (w .in-rest .not-Input)) in
-            (omega (arith, w .count-is, c .loop-net .inv .0), omega (arith, w .count-is))
+      | in-Input w ↦
+          let more = tally-more is-input (c .args .nets .now) (c .loop-net .net-index) _ true (c .loop-net-test .taken) (ap is-input (w .in-Input .is)) in
+          (omega (arith, w .count-is, c .loop-net .inv .0), omega (arith, w .count-is))
+      | in-rest w ↦
+          let more = tally-more is-input (c .args .nets .now) (c .loop-net .net-index) _ false (c .loop-net-test .taken)
+          (no-input-from _ (w .in-rest .not-Input)) in
+          (omega (arith, w .count-is, c .loop-net .inv .0), omega (arith, w .count-is))
     ]
 
 pub returns : need.returns

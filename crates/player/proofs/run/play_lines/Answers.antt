@@ -35,9 +35,9 @@ run-lines-requires c κs =
     let room = and-parts _ (leb (c .count-lines-lines .result) (length (c .args .cycles .now))) (sym (c .if-not-is-room .ensures tt)) in
     let scratch = and-parts _ (leb (2 * places d + 1024) (length (c .args .scratch .now))) (room .0) in
     let lines : c .count-lines-lines .result ≡ line-count (inputs d) (c .args .text .now) =
-        c .count-lines-lines .ensures ∙ ap (λ (n : ℕ). line-count n (c .args .text .now)) count in
+    c .count-lines-lines .ensures ∙ ap (λ (n : ℕ). line-count n (c .args .text .now)) count in
     let whole : lines-refusal (inputs d) (c .args .text .now) ≡ None =
-        ap (λ (n : ℕ). lines-refusal n (c .args .text .now)) (sym count) ∙ sym (c .in-Continue-check-lines .ensures tt) in
+    ap (λ (n : ℕ). lines-refusal n (c .args .text .now)) (sym count) ∙ sym (c .in-Continue-check-lines .ensures tt) in
     record {
       state = c .start .kept .state ∙ c .in-Continue-start .ensures tt .0;
       scratch = leb-true (2 * places d + 1024) (length (c .args .scratch .now)) (scratch .1);

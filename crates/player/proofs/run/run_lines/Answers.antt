@@ -16,9 +16,10 @@ use Rattle.player.proofs.Runs.{running-none, running-more, ran-from, stops, li
 use Rattle.player.proofs.run.run_lines.Needs as need
 
 pub loop-line-holds : need.loop-line-holds
-loop-line-holds c =
-    (running-none (core (c .args .design .now)) (c .args .text .now) (c .args .lines) (c .args .state .now) (c .args .cycles .now),
-    c .in-Continue-shown .ensures tt .1)
+loop-line-holds c = (
+  running-none (core (c .args .design .now)) (c .args .text .now) (c .args .lines) (c .args .state .now) (c .args .cycles .now),
+  c .in-Continue-shown .ensures tt .1,
+)
 
 pub returns-then-shown-eq1 : need.returns-then-shown-eq1
 returns-then-shown-eq1 c =
@@ -40,15 +41,16 @@ pub loop-line-again : need.loop-line-again
 loop-line-again c =
     let d = core (c .args .design .now) in
     let even : halted bit-kind d (c .loop-line .state) ≡ false =
-        even-goes _ (λ e. c .if-shown-eq1 .left (ap (λ (k : ℕ). k % 2) (c .loop-line .inv .1) ∙ e)) in
+    even-goes _ (λ e. c .if-shown-eq1 .left (ap (λ (k : ℕ). k % 2) (c .loop-line .inv .1) ∙ e)) in
     let after = c .in-Continue-cycle .ensures tt in
     let line : c .line-of .result .now ≡ line-bytes (inputs d) (c .args .text .now) (c .loop-line .line) =
-        c .line-of .ensures .value
-        ∙ ap (λ (n : ℕ). line-bytes n (c .args .text .now) (c .loop-line .line)) (c .count-inputs-inputs .ensures ∙ ap (tally is-input) (c .nets .ensures)) in
-    (running-more d (c .args .text .now) (c .args .lines) (c .loop-line .line) (c .args .state .now) (c .loop-line .state) (c .step .last .state)
-    (c .args .cycles .now) (c .loop-line .cycles) (c .in-Continue-cycle .cycle) (c .loop-line-test .taken) (omega arith) even
-    (after .0 ∙ ap (λ (bs : List ℕ). cycle-of d bs (c .loop-line .state)) line) (after .1) (c .loop-line .inv .0),
-    ap (λ (x : Cycle). x .key) (after .1))
+    c .line-of .ensures .value
+    ∙ ap (λ (n : ℕ). line-bytes n (c .args .text .now) (c .loop-line .line)) (c .count-inputs-inputs .ensures ∙ ap (tally is-input) (c .nets .ensures)) in (
+      running-more d (c .args .text .now) (c .args .lines) (c .loop-line .line) (c .args .state .now) (c .loop-line .state) (c .step .last .state)
+          (c .args .cycles .now) (c .loop-line .cycles) (c .in-Continue-cycle .cycle) (c .loop-line-test .taken) (omega arith) even
+          (after .0 ∙ ap (λ (bs : List ℕ). cycle-of d bs (c .loop-line .state)) line) (after .1) (c .loop-line .inv .0),
+      ap (λ (x : Cycle). x .key) (after .1),
+    )
 
 pub returns : need.returns
 returns c =

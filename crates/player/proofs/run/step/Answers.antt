@@ -33,6 +33,7 @@ returns c =
     let tag : Is-the-tag d = bits-are-the-tag d (memories-from-sound d (c .args .design .now .sound)) in
     let e = c .in-Continue-energy .ensures tt .cases in
     let next : c .cycle .last .state ≡ tag-cycle d (c .args .state .now) (given-by bit-kind d (c .read-levels .last .levels)) = e .1 ∙ tag .of-cycle _ _ in
-    let energy : c .in-Continue-energy .energy ≡ tag-energy d (c .args .state .now) (c .cycle .last .state) = e .2 ∙ tag .of-charge (c .args .state .now) (c .cycle .last .state) in
-    (next ∙ ap (λ (line : List Bit). tag-cycle d (c .args .state .now) (given-by bit-kind d line)) (c .read-levels .ensures),
-    ap₂ (λ (k n : ℕ). shows k n) (c .in-Continue-key .ensures tt .1) energy)
+    let energy : c .in-Continue-energy .energy ≡ tag-energy d (c .args .state .now) (c .cycle .last .state) = e .2 ∙ tag .of-charge (c .args .state .now) (c .cycle .last .state) in (
+      next ∙ ap (λ (line : List Bit). tag-cycle d (c .args .state .now) (given-by bit-kind d line)) (c .read-levels .ensures),
+      ap₂ (λ (k n : ℕ). shows k n) (c .in-Continue-key .ensures tt .1) energy,
+    )

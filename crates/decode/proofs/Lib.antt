@@ -1,0 +1,10 @@
+pub mod Asking
+pub mod Every
+pub mod Fields
+pub mod Steps
+pub mod Refusing
+pub mod Whole
+pub mod NetFacts
+pub mod PilotFacts
+pub mod Sound
+pub mod Holding

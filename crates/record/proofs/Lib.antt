@@ -1,0 +1,9 @@
+pub mod Keys
+pub mod Covering
+pub mod States
+pub mod Hold
+pub mod Steps
+pub mod Held
+pub mod Bound
+pub mod Wait
+pub mod Fit

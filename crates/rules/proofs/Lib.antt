@@ -1,0 +1,4 @@
+pub mod States
+pub mod Places
+pub mod Covers
+pub mod Exactly
