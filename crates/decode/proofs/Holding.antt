@@ -20,7 +20,8 @@ use Rattle.design.proofs.Parts.{part-of-front, rest-of-front}
 use Rattle.decode.proofs.Refusing.{Passed}
 use Rattle.decode.proofs.Sound.{nets-few, long, few-rom, few-ram, wire-number, pilots-few, starts-whole, starts-long, some-flop, sound-core}
 use Rattle.decode.proofs.Asking.{length-entries}
-use Rattle.decode.proofs.Steps.{tally-le, starts-fit}
+use Rattle.model.proofs.Tallies.{tally-few}
+use Rattle.decode.proofs.Steps.{starts-fit}
 
 -- cores with the same parts are the same
 core-same : (x y : Core) → x .clock ≡ y .clock → x .window ≡ y .window → x .rom-energy ≡ y .rom-energy → x .ram-energy ≡ y .ram-energy → x .write-energy ≡ y .write-energy → x .nets ≡ y .nets → x .rom ≡ y .rom → x .ram ≡ y .ram → x .rom-address ≡ y .rom-address → x .ram-address ≡ y .ram-address → x .write-enable ≡ y .write-enable → x .write-data ≡ y .write-data → x .mark ≡ y .mark → x .pilots ≡ y .pilots → x .starts ≡ y .starts → x ≡ y
@@ -101,7 +102,7 @@ module _ (t : Tables) (p : Parts) (h : Holds t p) (taken : Passed (parts-refusal
   pub starts-limit : t .«start_count» * t .«flop_count» ≤ 32768
   starts-limit =
       let w = starts-whole p taken in
-      omega (arith, levels, starts-fit (length (p .starts)) (tally is-flop (all-nets p)) (w .0) (w .2) (omega (arith, tally-le (all-nets p), long p taken, nets-few p taken)))
+      omega (arith, levels, starts-fit (length (p .starts)) (tally is-flop (all-nets p)) (w .0) (w .2) (omega (arith, tally-few is-flop (all-nets p), long p taken, nets-few p taken)))
 
   pub nets-counted : length (core-of t .nets) ≡ t .«net_count»
   nets-counted = ap (λ (c : Core). length (c .nets)) core-is ∙ (long p taken ∙ sym (h .net-number))

@@ -1,4 +1,4 @@
--- The steps of the loops that count flops, look for a pilot and find the number of address bits.
+-- The steps of the loops that look for a pilot and find the number of address bits.
 use mathlib.Core.Path.{_≡_, sym, ap, _∙_}
 use mathlib.Core.Bool.{Bool, true, false, _||_, cond}
 use mathlib.Core.List.{List, [], _∷_, map}
@@ -7,22 +7,13 @@ use native.Mathlib.Omega.{arith}
 use lib.ListN.{length, getD, drop, take}
 use Rattle.std.specs.Iters.{counting}
 use Rattle.std.specs.declared.option.Option.the-variants.{Some, None}
-use Rattle.std.proofs.shelf.Lists.{at-drop-more, at-drop-all, ext-getD, length-take-le, length-map, getD-take, getD-map}
+use Rattle.std.proofs.shelf.Lists.{ext-getD, length-take-le, length-map, getD-take, getD-map}
 use Rattle.std.proofs.shelf.Tests.{eq-eqb, ne-eqb, lt-ltb, le-leb, and-from}
 use Rattle.std.proofs.shelf.Bits.{div-add-mod', mul-le}
 use Rattle.model.specs.declared.net.Net.{Net}
 use Rattle.model.specs.Core.{no-net, is-flop, tally, among}
 use Rattle.decode.specs.Words.{bits-from}
 use Rattle.decode.specs.Decode.{whole-starts}
-
--- ---- flops
-
-pub tally-more : (nets : List Net) (i : ℕ) (d : Net) (b : Bool) → i < length nets → is-flop (getD nets i d .driver) ≡ b → tally is-flop (drop i nets) ≡ cond b 1 0 + tally is-flop (drop (i + 1) nets)
-tally-more nets i d b h e =
-    at-drop-more (tally is-flop) nets i d h ∙ ap (λ (t : Bool). cond t 1 0 + tally is-flop (drop (i + 1) nets)) e
-
-pub tally-all : (nets : List Net) (i : ℕ) → length nets ≤ i → tally is-flop (drop i nets) ≡ 0
-tally-all nets i h = at-drop-all (tally is-flop) nets i h
 
 -- ---- a number among those that a function gives
 
@@ -77,14 +68,6 @@ map-read f xs ys h each =
     ext-getD 0 (take (length xs) ys) (map f xs) (length-take-le (length xs) ys h ∙ sym (length-map xs f))
     (λ j l. let k : j < length xs = omega (arith, length-take-le (length xs) ys h) in
     getD-take (length xs) ys j 0 k ∙ (each j k ∙ sym (getD-map f xs j 0 0 k)))
-
-pub tally-le : (nets : List Net) → tally is-flop nets ≤ length nets
-tally-le [] = omega arith
-tally-le (n ∷ nets) = go (is-flop (n .driver)) (tally-le nets)
-  where
-    go : (b : Bool) → tally is-flop nets ≤ length nets → cond b 1 0 + tally is-flop nets ≤ suc (length nets)
-    go true h = omega arith
-    go false h = omega arith
 
 -- ---- starts
 

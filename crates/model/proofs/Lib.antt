@@ -5,3 +5,4 @@ pub mod Tag
 pub mod Settle
 pub mod Follow
 pub mod Sound
+pub mod Tallies

@@ -16,7 +16,7 @@ use Rattle.model.specs.Core.{Core, sound, is-input, inputs, flops}
 use Rattle.model.proofs.Sound.{sound-parts}
 use Rattle.model.specs.Cycle.{halted}
 use Rattle.player.specs.declared.run.Cycle.{Cycle}
-use Rattle.player.proofs.Tallies.{tally-few}
+use Rattle.model.proofs.Tallies.{tally-few}
 use Rattle.player.specs.Run.{next-state, shown-cycle, cycles-from, state-from, Ran}
 
 module _ (d : Core) (text : List ℕ) where

@@ -12,15 +12,16 @@ use Rattle.decode.specs.Entries.{first-unread, entries}
 use Rattle.decode.specs.Pilots.{flop-places, start-read}
 use Rattle.decode.specs.Decode.{whole-starts}
 use Rattle.decode.proofs.Refusing.{passed, last-asked}
-use Rattle.decode.proofs.Steps.{tally-le, starts-fit, starts-whole}
+use Rattle.model.proofs.Tallies.{tally-few}
+use Rattle.decode.proofs.Steps.{starts-fit, starts-whole}
 use Rattle.decode.proofs.stages.read_starts.Needs as need
 
 pub read-all-requires : need.read-all-requires
 read-all-requires c κs =
     omega (
       arith,
-      tally-le (c .args .nets .now),
-      starts-fit (length (c .args .bytes .now)) (c .args .flops) (c .if-count-flops-ne0 .left) (c .if-count-flops-gt8 .left) (omega (arith, tally-le (c .args .nets .now))),
+      tally-few is-flop (c .args .nets .now),
+      starts-fit (length (c .args .bytes .now)) (c .args .flops) (c .if-count-flops-ne0 .left) (c .if-count-flops-gt8 .left) (omega (arith, tally-few is-flop (c .args .nets .now))),
     )
 
 pub returns : need.returns

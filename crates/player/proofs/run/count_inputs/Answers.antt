@@ -1,9 +1,8 @@
 use mathlib.Core.Path.{ap}
 use mathlib.Core.Bool.{true, false}
 use native.Mathlib.Omega.{arith}
-use Rattle.std.proofs.shelf.Lists.{at-drop-all}
 use Rattle.model.specs.Core.{tally, is-input}
-use Rattle.player.proofs.Tallies.{tally-more, no-input-from}
+use Rattle.model.proofs.Tallies.{tally-more, tally-all, no-input-from}
 use Rattle.player.proofs.run.count_inputs.Needs as need
 use Rattle.player.proofs.run.count_inputs.Needs.{in-Input, in-rest}
 
@@ -21,5 +20,5 @@ loop-net-again c =
 
 pub returns : need.returns
 returns c =
-    let e = at-drop-all (tally is-input) (c .args .nets .now) (c .loop-net .net-index) (c .loop-net-test .left) in
+    let e = tally-all is-input (c .args .nets .now) (c .loop-net .net-index) (c .loop-net-test .left) in
     omega (arith, c .loop-net .inv .0)

@@ -13,7 +13,7 @@ use Rattle.model.proofs.Sound.{memories-from-sound}
 use Rattle.model.proofs.Tag.{bits-are-the-tag}
 use Rattle.design.specs.Views.{core}
 use Rattle.player.specs.declared.run.Cycle.{Cycle}
-use Rattle.player.proofs.Tallies.{tally-few}
+use Rattle.model.proofs.Tallies.{tally-few}
 use Rattle.player.proofs.run.step.Needs as need
 
 abbrev shows : ℕ → ℕ → Cycle

@@ -5,16 +5,19 @@ use mathlib.Core.List.{List, [], _∷_}
 use Prim.Native.Nat.{ℕ, suc, _+_, _<_, _≤_}
 use native.Mathlib.Omega.{arith}
 use lib.ListN.{length, getD, drop}
-use Rattle.std.proofs.shelf.Lists.{at-drop-more}
+use Rattle.std.proofs.shelf.Lists.{at-drop-more, at-drop-all}
 use Rattle.model.specs.declared.net.Driver.{Driver}
 use Rattle.model.specs.declared.net.Driver.the-variants as driver
 use Rattle.model.specs.declared.net.Net.{Net}
 use Rattle.model.specs.Core.{tally, is-input}
 
 pub tally-more : (f : Driver → Bool) (ns : List Net) (i : ℕ) (n : Net) (b : Bool) → i < length ns → f (getD ns i n .driver) ≡ b →
     tally f (drop i ns) ≡ cond b 1 0 + tally f (drop (i + 1) ns)
 tally-more f ns i n b h e =
     at-drop-more (tally f) ns i n h ∙ ap (λ (c : Bool). cond c 1 0 + tally f (drop (i + 1) ns)) e
+
+pub tally-all : (f : Driver → Bool) (ns : List Net) (i : ℕ) → length ns ≤ i → tally f (drop i ns) ≡ 0
+tally-all f ns i h = at-drop-all (tally f) ns i h
 
 pub no-input-from : (x : Driver) → (x ≡ driver.Input → ⊥) → is-input x ≡ false
 no-input-from (driver.Gate g) h = refl
