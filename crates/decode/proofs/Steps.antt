@@ -7,7 +7,7 @@ use native.Mathlib.Omega.{arith}
 use lib.ListN.{length, getD, drop, take}
 use Rattle.std.specs.Iters.{counting}
 use Rattle.std.specs.declared.option.Option.the-variants.{Some, None}
-use Rattle.std.proofs.shelf.Lists.{ext-getD, length-take-le, length-map, getD-take, getD-map}
+use Rattle.std.proofs.shelf.Lists.{at-drop-more, at-drop-all, ext-getD, length-take-le, length-map, getD-take, getD-map}
 use Rattle.std.proofs.shelf.Tests.{eq-eqb, ne-eqb, lt-ltb, le-leb, and-from}
 use Rattle.std.proofs.shelf.Bits.{div-add-mod', mul-le}
 use Rattle.model.specs.declared.net.Net.{Net}
