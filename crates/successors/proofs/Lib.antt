@@ -1,0 +1,4 @@
+mod ConstantLemmas
+mod CoverLemmas
+mod PilotLemmas
+mod SuccessorLemmas
