@@ -17,7 +17,7 @@ fn step<V: Level>(
     line: &[V],
     scratch: &mut [V],
 ) -> Result<u32, Refusal>
-    ensures { Cycles kind (core design.now) line.now scratch.old state.old state.new result }
+    ensures { Cycles V.kind (core design.now) line.now scratch.old state.old state.new result }
 {
     let places = design.places();
     if state.len() != places || scratch.len() < places + LEAVES {
@@ -43,8 +43,8 @@ pub fn cycle<V: Level>(
     line: &[V],
     scratch: &mut [V],
 ) -> Result<u32, Refusal>
-    ensures cases { Cycles kind (core design.now) line.now scratch.old state.old state.new result }
-    ensures scratch { scratch.new ≡ replicate (length scratch.old) kind.blank }
+    ensures cases { Cycles V.kind (core design.now) line.now scratch.old state.old state.new result }
+    ensures scratch { scratch.new ≡ replicate (length scratch.old) V.kind.blank }
 {
     let result = step(design, state, line, scratch);
     blank_all(scratch);

@@ -18,7 +18,7 @@ pub(crate) const LEAVES: usize = 1024;
 
 // What a store with an enable holds next: `data` at enable 1, what it held at 0, and else a level that allows what either allows.
 fn next_level<V: Level>(enable: V, held: V, data: V) -> V
-    ensures { result ≡ choice kind enable held «data» }
+    ensures { result ≡ choice V.kind enable held «data» }
 {
     V::choose(enable, held, data)
 }
@@ -36,7 +36,7 @@ fn edged_net<V: Level>(
     requires driver { net_sound (core design.now) i driver ≡ true }
     requires before { length before.now ≡ places (core design.now) }
     requires leaves { 1024 ≤ length leaves.old }
-    ensures { result ≡ edged kind (core design.now) before.now (λ _. given) i driver }
+    ensures { result ≡ edged V.kind (core design.now) before.now (λ _. given) i driver }
 {
     match driver {
         Driver::Gate(_) => before[i],
@@ -53,7 +53,7 @@ fn edged_net<V: Level>(
 
 // The level given to an input by its place in the line, blank past the line's end.
 fn given_at<V: Level>(line: &[V], place: usize) -> V
-    ensures { result ≡ at kind line.now place }
+    ensures { result ≡ at V.kind line.now place }
 {
     if place < line.len() {
         line[place]
@@ -67,7 +67,7 @@ fn edge_nets<V: Level>(design: &Design, before: &[V], line: &[V], after: &mut [V
     requires before { length before.now ≡ places (core design.now) }
     requires after { length after.old ≡ places (core design.now) }
     requires leaves { 1024 ≤ length leaves.old }
-    ensures { (i : ℕ) → i < length (core design.now).nets → at kind after.new i ≡ edged kind (core design.now) before.now (given_by kind (core design.now) line.now) i (driver_at (core design.now) i) }
+    ensures { (i : ℕ) → i < length (core design.now).nets → at V.kind after.new i ≡ edged V.kind (core design.now) before.now (given_by V.kind (core design.now) line.now) i (driver_at (core design.now) i) }
 {
     let nets = design.nets();
     let mut inputs = 0;
@@ -85,8 +85,8 @@ fn edge_word<V: Level>(design: &Design, before: &[V], word: usize, after: &mut [
     requires word { word < length (core design.now).ram }
     requires before { length before.now ≡ places (core design.now) }
     requires after { length after.old ≡ places (core design.now) }
-    ensures below { (i : ℕ) → i < length (core design.now).nets + 16 * word → at kind after.new i ≡ at kind after.old i }
-    ensures bits { (bit : ℕ) → bit < 16 → at kind after.new (length (core design.now).nets + (16 * word + bit)) ≡ stored kind (core design.now) before.now word bit }
+    ensures below { (i : ℕ) → i < length (core design.now).nets + 16 * word → at V.kind after.new i ≡ at V.kind after.old i }
+    ensures bits { (bit : ℕ) → bit < 16 → at V.kind after.new (length (core design.now).nets + (16 * word + bit)) ≡ stored V.kind (core design.now) before.now word bit }
 {
     let on = word_written(design, before, word);
     let data = design.write_data();
@@ -100,8 +100,8 @@ fn edge_word<V: Level>(design: &Design, before: &[V], word: usize, after: &mut [
 fn edge_words<V: Level>(design: &Design, before: &[V], after: &mut [V])
     requires before { length before.now ≡ places (core design.now) }
     requires after { length after.old ≡ places (core design.now) }
-    ensures nets { (i : ℕ) → i < length (core design.now).nets → at kind after.new i ≡ at kind after.old i }
-    ensures ram { (j : ℕ) → j < 16 * length (core design.now).ram → at kind after.new (length (core design.now).nets + j) ≡ stored kind (core design.now) before.now (j / 16) (j % 16) }
+    ensures nets { (i : ℕ) → i < length (core design.now).nets → at V.kind after.new i ≡ at V.kind after.old i }
+    ensures ram { (j : ℕ) → j < 16 * length (core design.now).ram → at V.kind after.new (length (core design.now).nets + j) ≡ stored V.kind (core design.now) before.now (j / 16) (j % 16) }
 {
     let words = design.ram().len();
     for word in 0..words {
@@ -110,7 +110,7 @@ fn edge_words<V: Level>(design: &Design, before: &[V], after: &mut [V])
 }
 
 pub(crate) fn blank_all<V: Level>(levels: &mut [V])
-    ensures { levels.new ≡ replicate (length levels.old) kind.blank }
+    ensures { levels.new ≡ replicate (length levels.old) V.kind.blank }
 {
     for level in levels.iter_mut() {
         *level = V::blank();
@@ -129,10 +129,10 @@ pub fn edge<V: Level>(
 ) -> Result<(), Refusal>
     ensures cases { MatchResult result
         (λ _. EdgeMemory (core design.now) before.now after.old leaves.old
-        × (after.new ≡ edge kind (core design.now) before.now (given_by kind (core design.now) line.now)))
+        × (after.new ≡ edge V.kind (core design.now) before.now (given_by V.kind (core design.now) line.now)))
         (λ e. (EdgeMemory (core design.now) before.now after.old leaves.old → ⊥)
         × (e ≡ wrong_memory) × (after.new ≡ after.old)) }
-    ensures leaves { leaves.new ≡ replicate (length leaves.old) kind.blank }
+    ensures leaves { leaves.new ≡ replicate (length leaves.old) V.kind.blank }
 {
     let places = design.places();
     if before.len() != places || after.len() != places || leaves.len() < LEAVES {

@@ -12,7 +12,7 @@ use model::Net;
 
 // What a net costs in a step from one level to another: idle, and the dearest change that the two levels allow.
 fn net_charge<V: Level>(net: &Net, before: V, after: V) -> u32
-    ensures value { result ≡ net.now.idle + change net.now (kind.allows before) (kind.allows after) }
+    ensures value { result ≡ net.now.idle + change net.now (V.kind.allows before) (V.kind.allows after) }
     ensures bound { result ≤ 131070 }
 {
     let rise = u32::from(before.allows(false) & after.allows(true)) * u32::from(net.rise);
@@ -23,7 +23,7 @@ fn net_charge<V: Level>(net: &Net, before: V, after: V) -> u32
 pub(crate) fn step_charge<V: Level>(design: &Design, before: &[V], after: &[V]) -> u32
     requires before_len { length before.now ≡ places (core design.now) }
     requires after_len { length after.now ≡ places (core design.now) }
-    ensures { result ≡ drawn kind (core design.now) before.now after.now }
+    ensures { result ≡ drawn V.kind (core design.now) before.now after.now }
 {
     let enable = before[design.write_enable() as usize];
     let write = u32::from(enable.allows(true)) * u32::from(design.write_energy());
@@ -39,7 +39,7 @@ pub fn charge<V: Level>(design: &Design, before: &[V], after: &[V]) -> Result<u3
     ensures { MatchResult result
         (λ energy. (length before.now ≡ places (core design.now))
         × (length after.now ≡ places (core design.now))
-        × (energy ≡ drawn kind (core design.now) before.now after.now))
+        × (energy ≡ drawn V.kind (core design.now) before.now after.now))
         (λ e. ((length before.now ≡ places (core design.now)) → (length after.now ≡ places (core design.now)) → ⊥)
         × (e ≡ wrong_memory)) }
 {

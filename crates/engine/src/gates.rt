@@ -14,7 +14,7 @@ use model::{Driver, Gate};
 fn pin_level<V: Level>(state: &[V], gate: &Gate, j: usize) -> V
     requires j_bound { j < 4 }
     requires by_index { (p : ℕ) → slice_index gate.now.pins p < length state.now }
-    ensures { result ≡ pin kind state.now gate.now j }
+    ensures { result ≡ pin V.kind state.now gate.now j }
 {
     if j < gate.used as usize {
         state[gate.pins[j] as usize]
@@ -25,7 +25,7 @@ fn pin_level<V: Level>(state: &[V], gate: &Gate, j: usize) -> V
 
 fn gate_level<V: Level>(state: &[V], gate: &Gate) -> V
     requires { (p : ℕ) → slice_index gate.now.pins p < length state.now }
-    ensures { result ≡ gate_output kind state.now gate.now }
+    ensures { result ≡ gate_output V.kind state.now gate.now }
 {
     let a = pin_level(state, gate, 0);
     let b = pin_level(state, gate, 1);
@@ -36,7 +36,7 @@ fn gate_level<V: Level>(state: &[V], gate: &Gate) -> V
 
 pub(crate) fn settle_gates<V: Level>(design: &Design, state: &mut [V])
     requires { length state.old ≡ places (core design.now) }
-    ensures { state.new ≡ settled kind (core design.now) state.old }
+    ensures { state.new ≡ settled V.kind (core design.now) state.old }
 {
     for (i, net) in design.nets().iter().enumerate() {
         if let Driver::Gate(gate) = net.driver {
@@ -49,7 +49,7 @@ pub(crate) fn settle_gates<V: Level>(design: &Design, state: &mut [V])
 pub fn settle<V: Level>(design: &Design, state: &mut [V]) -> Result<(), Refusal>
     ensures { MatchResult result
         (λ _. (length state.old ≡ places (core design.now))
-        × (state.new ≡ settled kind (core design.now) state.old))
+        × (state.new ≡ settled V.kind (core design.now) state.old))
         (λ e. (length state.old ≢ places (core design.now))
         × (e ≡ wrong_memory) × (state.new ≡ state.old)) }
 {

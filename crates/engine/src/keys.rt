@@ -19,7 +19,7 @@ fn at_weight(bit: bool, i: usize) -> u16
 
 fn pilots_key<V: Level>(design: &Design, state: &[V]) -> u16
     requires { length state.now ≡ places (core design.now) }
-    ensures { result ≡ key_of kind (core design.now) state.now }
+    ensures { result ≡ key_of V.kind (core design.now) state.now }
 {
     let mut key = 0;
     for (i, pilot) in design.pilots().iter().enumerate() {
@@ -33,7 +33,7 @@ fn pilots_key<V: Level>(design: &Design, state: &[V]) -> u16
 pub fn key<V: Level>(design: &Design, state: &[V]) -> Result<u16, Refusal>
     ensures { MatchResult result
         (λ bits. (length state.now ≡ places (core design.now))
-        × (bits ≡ key_of kind (core design.now) state.now))
+        × (bits ≡ key_of V.kind (core design.now) state.now))
         (λ e. (length state.now ≢ places (core design.now)) × (e ≡ wrong_memory)) }
 {
     if state.len() != design.places() {

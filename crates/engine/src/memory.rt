@@ -15,7 +15,7 @@ const FIRST_ONLY: u16 = 2;
 
 // One layer of the tree, in place: place i becomes what `select` chooses of places 2 * i and 2 * i + 1.
 fn pair_up<V: Level>(select: V, leaves: &mut [V])
-    ensures { take (length leaves.old / 2) leaves.new ≡ paired kind select leaves.old }
+    ensures { take (length leaves.old / 2) leaves.new ≡ paired V.kind select leaves.old }
 {
     let half = leaves.len() / 2;
     for i in 0..half {
@@ -27,7 +27,7 @@ fn pair_up<V: Level>(select: V, leaves: &mut [V])
 fn pick<V: Level>(state: &[V], address: &[u16], leaves: &mut [V]) -> V
     requires wires { (i : ℕ) → i < length address.now → slice_index address.now i < length state.now }
     requires whole { length leaves.old ≡ 2 ^ length address.now }
-    ensures { result ≡ picked kind (map (at kind state.now) address.now) leaves.old }
+    ensures { result ≡ picked V.kind (map (at V.kind state.now) address.now) leaves.old }
 {
     let mut width = leaves.len();
     for wire in address {
@@ -41,7 +41,7 @@ fn pick<V: Level>(state: &[V], address: &[u16], leaves: &mut [V]) -> V
 fn load_rom<V: Level>(words: &[u16], bit: u8, leaves: &mut [V])
     requires bit { bit < 16 }
     requires whole { length leaves.old ≡ length words.now }
-    ensures { leaves.new ≡ map (λ word. kind.of_bit (bit_at word bit)) words.now }
+    ensures { leaves.new ≡ map (λ word. V.kind.of_bit (bit_at word bit)) words.now }
 {
     for (i, word) in words.iter().enumerate() {
         leaves[i] = V::of_bit((*word >> bit) & 1 == 1);
@@ -53,7 +53,7 @@ pub(crate) fn read_rom<V: Level>(design: &Design, state: &[V], bit: u8, leaves: 
     requires bit { bit < 16 }
     requires state { length state.now ≡ places (core design.now) }
     requires leaves { 1024 ≤ length leaves.old }
-    ensures { result ≡ picked kind (map (at kind state.now) (core design.now).rom_address) (rom_leaves kind (core design.now) bit) }
+    ensures { result ≡ picked V.kind (map (at V.kind state.now) (core design.now).rom_address) (rom_leaves V.kind (core design.now) bit) }
 {
     let words = design.rom();
     let leaves = &mut leaves[0..words.len()];
@@ -76,7 +76,7 @@ fn load_ram<V: Level>(design: &Design, state: &[V], bit: u8, leaves: &mut [V])
     requires bit { bit < 16 }
     requires state { length state.now ≡ places (core design.now) }
     requires whole { length leaves.old ≡ length (core design.now).ram }
-    ensures { leaves.new ≡ ram_leaves kind (core design.now) state.now bit }
+    ensures { leaves.new ≡ ram_leaves V.kind (core design.now) state.now bit }
 {
     for word in 0..leaves.len() {
         leaves[word] = state[ram_place(design, word, bit as usize)];
@@ -88,7 +88,7 @@ pub(crate) fn read_ram<V: Level>(design: &Design, state: &[V], bit: u8, leaves: 
     requires bit { bit < 16 }
     requires state { length state.now ≡ places (core design.now) }
     requires leaves { 1024 ≤ length leaves.old }
-    ensures { result ≡ picked kind (map (at kind state.now) (core design.now).ram_address) (ram_leaves kind (core design.now) state.now bit) }
+    ensures { result ≡ picked V.kind (map (at V.kind state.now) (core design.now).ram_address) (ram_leaves V.kind (core design.now) state.now bit) }
 {
     let leaves = &mut leaves[0..design.ram().len()];
     load_ram(design, state, bit, leaves);
@@ -98,7 +98,7 @@ pub(crate) fn read_ram<V: Level>(design: &Design, state: &[V], bit: u8, leaves: 
 // Whether the edge writes a RAM word: the write enable, joined with the match of each address bit.
 pub(crate) fn word_written<V: Level>(design: &Design, state: &[V], word: usize) -> V
     requires { length state.now ≡ places (core design.now) }
-    ensures { result ≡ word_written kind (core design.now) state.now word }
+    ensures { result ≡ word_written V.kind (core design.now) state.now word }
 {
     let zero = V::of_bit(false);
     let address = design.ram_address();

@@ -14,7 +14,7 @@ use model::{Driver, RamWord};
 
 // A flop's level in a start, blank where the start does not know it.
 fn flop_level<V: Level>(level: Tri) -> V
-    ensures { (d : Core) → result ≡ of_start kind d level }
+    ensures { (d : Core) → result ≡ of_start V.kind d level }
 {
     match level {
         Tri::Zero => V::of_bit(false),
@@ -33,7 +33,7 @@ fn word_bit(word: u16, bit: usize) -> bool
 // A bit of a RAM word as the tag wakes, blank where the word does not know it.
 fn ram_level<V: Level>(word: &RamWord, bit: usize) -> V
     requires { bit < 16 }
-    ensures { (d : Core) → result ≡ ram_begun kind d word.now bit }
+    ensures { (d : Core) → result ≡ ram_begun V.kind d word.now bit }
 {
     if word_bit(word.unknown, bit) {
         V::blank()
@@ -47,7 +47,7 @@ fn start_nets<V: Level>(design: &Design, number: usize, state: &mut [V])
     requires state_len { length state.old ≡ places (core design.now) }
     requires number_bound { number < start_count (core design.now) }
     ensures { (i : ℕ) → i < length (core design.now).nets
-        → at kind state.new i ≡ begun kind (core design.now) number i (driver_at (core design.now) i) }
+        → at V.kind state.new i ≡ begun V.kind (core design.now) number i (driver_at (core design.now) i) }
 {
     let starts = design.starts();
     let mut flop = number * design.flop_count();
@@ -67,10 +67,10 @@ fn start_nets<V: Level>(design: &Design, number: usize, state: &mut [V])
 // The RAM's bits as the tag wakes, behind the nets.
 fn start_ram<V: Level>(design: &Design, state: &mut [V])
     requires { length state.old ≡ places (core design.now) }
-    ensures nets { (i : ℕ) → i < length (core design.now).nets → at kind state.new i ≡ at kind state.old i }
+    ensures nets { (i : ℕ) → i < length (core design.now).nets → at V.kind state.new i ≡ at V.kind state.old i }
     ensures words { (q : ℕ) → q < 16 * length (core design.now).ram
-        → at kind state.new (length (core design.now).nets + q)
-        ≡ ram_begun kind (core design.now) (slice_index_or (core design.now).ram (q / 16) no_word) (q % 16) }
+        → at V.kind state.new (length (core design.now).nets + q)
+        ≡ ram_begun V.kind (core design.now) (slice_index_or (core design.now).ram (q / 16) no_word) (q % 16) }
 {
     let first = design.nets().len();
     let ram = design.ram();
@@ -84,7 +84,7 @@ pub fn start<V: Level>(design: &Design, number: usize, state: &mut [V]) -> Resul
     ensures { MatchResult result
         (λ _. (length state.old ≡ places (core design.now))
         × (number < start_count (core design.now))
-        × (state.new ≡ start_state kind (core design.now) number))
+        × (state.new ≡ start_state V.kind (core design.now) number))
         (λ e. (length state.old ≡ places (core design.now) → number < start_count (core design.now) → ⊥)
         × (e ≡ start_refusal (core design.now) state.old)
         × (state.new ≡ state.old)) }

@@ -8,16 +8,16 @@ use Rattle.bundle.proofs.questions.ask_bodies.Goals as goal
 pub at-row-requires : goal.at-row-requires
 at-row-requires c = all_good (row_inside c.args.bytes.now) fault.Rows 0 c.args.rows c.requires.0 c.loop-i.i (omega arith) (omega arith)
 
-pub returns-then-not-is-placed : goal.returns-then-not-is-placed
-returns-then-not-is-placed c =
+pub returns-then-not-is_placed : goal.returns-then-not-is_placed
+returns-then-not-is_placed c =
     sym (asked_bad (row_placed c.args.bytes.now) fault.Bodies c.loop-i.i c.args.rows c.loop-i-test.true
-    (placed_seen c.args.bytes.now c.loop-i.i _ _ _ _ _ c.at-row.ensures c.loop-i.invariant.1 c.requires.1 c.is-placed.ensures c.if-not-is-placed.true)
+    (placed_seen c.args.bytes.now c.loop-i.i _ _ _ _ _ c.at-row.ensures c.loop-i.invariant.1 c.requires.1 c.is_placed.ensures c.if-not-is_placed.true)
     c.loop-i.invariant.0)
 
 pub loop-i-preserved : goal.loop-i-preserved
 loop-i-preserved c = (
   asked_more (row_placed c.args.bytes.now) fault.Bodies c.loop-i.i c.args.rows c.loop-i-test.true
-      (placed_seen c.args.bytes.now c.loop-i.i _ _ _ _ _ c.at-row.ensures c.loop-i.invariant.1 c.requires.1 c.is-placed.ensures c.if-not-is-placed.false)
+      (placed_seen c.args.bytes.now c.loop-i.i _ _ _ _ _ c.at-row.ensures c.loop-i.invariant.1 c.requires.1 c.is_placed.ensures c.if-not-is_placed.false)
       c.loop-i.invariant.0,
-  next_start c.args.bytes.now c.loop-i.i _ _ c.at-row.ensures c.end-part-end.ensures,
+  next_start c.args.bytes.now c.loop-i.i _ _ c.at-row.ensures c.end-part_end.ensures,
 )

@@ -5,4 +5,4 @@ use Rattle.bundle.proofs.Asked.{Left}
 use Rattle.bundle.proofs.questions.ask_bodies.Given as goal
 
 abbrev pub invariant-loop-i : goal.invariant-loop-i
-invariant-loop-i l = Left (row_placed l.bytes) fault.Bodies l.rows l.i × (l.part-end ≡ part_end l.bytes l.i)
+invariant-loop-i l = Left (row_placed l.bytes) fault.Bodies l.rows l.i × (l.part_end ≡ part_end l.bytes l.i)

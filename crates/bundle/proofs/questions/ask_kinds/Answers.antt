@@ -8,14 +8,14 @@ use Rattle.bundle.proofs.questions.ask_kinds.Goals as goal
 pub at-requires : goal.at-requires
 at-requires c = all_good (row_inside c.args.bytes.now) fault.Rows 0 c.args.rows c.requires c.loop-i.i (omega arith) (omega arith)
 
-pub returns-then-not-is-right : goal.returns-then-not-is-right
-returns-then-not-is-right c =
+pub returns-then-not-is_right : goal.returns-then-not-is_right
+returns-then-not-is_right c =
     sym (asked_bad (row_right c.args.bytes.now) fault.Kinds c.loop-i.i c.args.rows c.loop-i-test.true
-    (right_seen c.args.bytes.now c.loop-i.i _ _ _ c.at.ensures c.is-right.ensures c.if-not-is-right.true)
+    (right_seen c.args.bytes.now c.loop-i.i _ _ _ c.at.ensures c.is_right.ensures c.if-not-is_right.true)
     c.loop-i.invariant)
 
 pub loop-i-preserved : goal.loop-i-preserved
 loop-i-preserved c =
     asked_more (row_right c.args.bytes.now) fault.Kinds c.loop-i.i c.args.rows c.loop-i-test.true
-    (right_seen c.args.bytes.now c.loop-i.i _ _ _ c.at.ensures c.is-right.ensures c.if-not-is-right.false)
+    (right_seen c.args.bytes.now c.loop-i.i _ _ _ c.at.ensures c.is_right.ensures c.if-not-is_right.false)
     c.loop-i.invariant

@@ -7,8 +7,8 @@ use Rattle.decode.proofs.Refusing.{passed, last_asked, handed_on}
 use Rattle.decode.proofs.Holding.{parts_same, core_is, net_limit, rom_bits_limit, rom_limit, ram_bits_limit, ram_limit, pilot_limit, flops_counted, starts_limit, nets_counted, ram_counted, starts_counted, flops_there, tables_sound}
 use Rattle.decode.proofs.read.read_design.Goals as goal
 
-pub returns-in-err-tables : goal.returns-in-err-tables
-returns-in-err-tables c =
+pub returns-in_err-tables : goal.returns-in_err-tables
+returns-in_err-tables c =
     let p : Parts = record {
       header = c.header.result;
       cells = c.stretch.result.now;
@@ -20,22 +20,22 @@ returns-in-err-tables c =
       starts = c.stretch-7.result.now;
     } in
     let bs : List ℕ = c.args.bytes.now in
-    let o = c.in-ok-bundle.ensures in
+    let o = c.in_ok-bundle.ensures in
     let e : p ≡ parts_of bs
-    = parts_same p (parts_of (bundle_bytes c.in-ok-bundle.bundle)) (c.header.ensures ∙ o.1.1)
+    = parts_same p (parts_of (bundle_bytes c.in_ok-bundle.bundle)) (c.header.ensures ∙ o.1.1)
     c.stretch.ensures c.stretch-2.ensures c.stretch-3.ensures c.stretch-4.ensures c.stretch-5.ensures c.stretch-6.ensures c.stretch-7.ensures
     ∙ ap parts_of o.0 in
     let asked : parts_refusal p ≡ design_refusal bs
     = ap parts_refusal e ∙ (last_asked (parts_refusal (parts_of bs))
     ∙ passed (bundle_refusal bs) (parts_refusal (parts_of bs) ∷ []) (sym (ap bundle_refusal (sym o.0) ∙ o.1.0))) in
-    let q = err_from_is_err_and c.from-residual-in-err-tables.result c.from-residual-in-err-tables.ensures.1 in
+    let q = err_from_is_err_and c.from_residual-in_err-tables.result c.from_residual-in_err-tables.ensures.1 in
     record {
-      refusal = handed_on c.from-residual-in-err-tables.result q.0 c.in-err-tables.field-0.0 _ q.1 q.2 (c.in-err-tables.ensures.refusal ∙ asked);
-      tables = MatchResult-from_err c.from-residual-in-err-tables.result _ _ c.from-residual-in-err-tables.ensures.0 (λ y. refl);
+      refusal = handed_on c.from_residual-in_err-tables.result q.0 c.in_err-tables.field-0.0 _ q.1 q.2 (c.in_err-tables.ensures.refusal ∙ asked);
+      tables = MatchResult-from_err c.from_residual-in_err-tables.result _ _ c.from_residual-in_err-tables.ensures.0 (λ y. refl);
     }
 
-pub invariant-of-design : goal.invariant-of-design
-invariant-of-design c =
+pub invariant_of-design : goal.invariant_of-design
+invariant_of-design c =
     let p : Parts = record {
       header = c.header.result;
       cells = c.stretch.result.now;
@@ -46,27 +46,24 @@ invariant-of-design c =
       pilots = c.stretch-6.result.now;
       starts = c.stretch-7.result.now;
     } in
-    let t = c.in-ok-tables.tables in
-    let h = c.in-ok-tables.ensures.tables in
-    let r = c.in-ok-tables.ensures.refusal in (
-      net_limit t p h r,
-      (
-        rom_bits_limit t p h r,
-        (
-          rom_limit t p h r,
-          (
-            ram_bits_limit t p h r,
-            (
-              ram_limit t p h r,
-              (
-                pilot_limit t p h r,
-                (flops_counted t p h r, (starts_limit t p h r, (nets_counted t p h r, (ram_counted t p h r, (starts_counted t p h r, (flops_there t p h r, (tables_sound t p h r, tt))))))),
-              ),
-            ),
-          ),
-        ),
-      ),
-    )
+    let t = c.in_ok-tables.tables in
+    let h = c.in_ok-tables.ensures.tables in
+    let r = c.in_ok-tables.ensures.refusal in
+    record {
+      net_count = net_limit t p h r;
+      rom_bits = rom_bits_limit t p h r;
+      rom_count = rom_limit t p h r;
+      ram_bits = ram_bits_limit t p h r;
+      ram_count = ram_limit t p h r;
+      pilot_count = pilot_limit t p h r;
+      flop_count = flops_counted t p h r;
+      start_count = starts_limit t p h r;
+      nets_length = nets_counted t p h r;
+      ram_length = ram_counted t p h r;
+      starts_length = starts_counted t p h r;
+      some_flop = flops_there t p h r;
+      sound = tables_sound t p h r;
+    }
 
 pub returns : goal.returns
 returns c =
@@ -81,15 +78,15 @@ returns c =
       starts = c.stretch-7.result.now;
     } in
     let bs : List ℕ = c.args.bytes.now in
-    let o = c.in-ok-bundle.ensures in
+    let o = c.in_ok-bundle.ensures in
     let e : p ≡ parts_of bs
-    = parts_same p (parts_of (bundle_bytes c.in-ok-bundle.bundle)) (c.header.ensures ∙ o.1.1)
+    = parts_same p (parts_of (bundle_bytes c.in_ok-bundle.bundle)) (c.header.ensures ∙ o.1.1)
     c.stretch.ensures c.stretch-2.ensures c.stretch-3.ensures c.stretch-4.ensures c.stretch-5.ensures c.stretch-6.ensures c.stretch-7.ensures
     ∙ ap parts_of o.0 in
     let asked : parts_refusal p ≡ design_refusal bs
     = ap parts_refusal e ∙ (last_asked (parts_refusal (parts_of bs))
     ∙ passed (bundle_refusal bs) (parts_refusal (parts_of bs) ∷ []) (sym (ap bundle_refusal (sym o.0) ∙ o.1.0))) in
     record {
-      refusal = c.in-ok-tables.ensures.refusal ∙ asked;
-      tables = core_is c.in-ok-tables.tables p c.in-ok-tables.ensures.tables c.in-ok-tables.ensures.refusal ∙ ap core_from e;
+      refusal = c.in_ok-tables.ensures.refusal ∙ asked;
+      tables = core_is c.in_ok-tables.tables p c.in_ok-tables.ensures.tables c.in_ok-tables.ensures.refusal ∙ ap core_from e;
     }

@@ -11,11 +11,11 @@ use Rattle.decode.proofs.stages.read_nets.Goals as goal
 
 pub returns : goal.returns
 returns c =
-    let a = c.in-ok-read-counted.ensures in
-    let b = c.read-counted-2.ensures in
+    let a = c.in_ok-read_counted.ensures in
+    let b = c.read_counted-2.ensures in
     let n : c.count-count.result - 0 ≡ cell_count c.args.cells.now = omega arith in
-    let e : take (c.count-count.result - 0) c.read-counted.new.table ≡ cells_of c.args.cells.now
-    = ap (λ (m : ℕ). take m c.read-counted.new.table) n ∙ a.table refl no_cell in
+    let e : take (c.count-count.result - 0) c.read_counted.new.table ≡ cells_of c.args.cells.now
+    = ap (λ (m : ℕ). take m c.read_counted.new.table) n ∙ a.table refl no_cell in
     record {
       refusal =
           b.refusal

@@ -11,8 +11,8 @@ use Rattle.model.proofs.Tallies.{tally_few}
 use Rattle.decode.proofs.Steps.{starts_fit, starts_whole}
 use Rattle.decode.proofs.stages.read_starts.Goals as goal
 
-pub read-all-requires : goal.read-all-requires
-read-all-requires c =
+pub read_all-requires : goal.read_all-requires
+read_all-requires c =
     omega (
       arith,
       tally_few is_flop c.args.nets.now,
@@ -21,11 +21,11 @@ read-all-requires c =
 
 pub returns : goal.returns
 returns c =
-    let b = c.read-all.ensures in
-    let places : List ℕ = take (length c.args.pilots.now - 0) c.place-pilots.new.places in
+    let b = c.read_all.ensures in
+    let places : List ℕ = take (length c.args.pilots.now - 0) c.place_pilots.new.places in
     let p : places ≡ flop_places c.args.nets.now c.args.pilots.now
     = let e : length c.args.pilots.now - 0 ≡ length c.args.pilots.now = omega arith in
-    ap (λ (m : ℕ). take m c.place-pilots.new.places) e ∙ c.place-pilots.ensures in
+    ap (λ (m : ℕ). take m c.place_pilots.new.places) e ∙ c.place_pilots.ensures in
     let f : c.args.flops ≡ tally is_flop c.args.nets.now = omega arith in
     let n : ℕ = length c.args.bytes.now in
     let w : whole_starts c.args.flops n ≡ true = starts_whole n c.args.flops c.if-count-flops-ne0.false c.if-count-eq0.false c.if-count-flops-gt8.false in

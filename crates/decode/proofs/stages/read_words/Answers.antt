@@ -3,6 +3,6 @@ use Rattle.decode.specs.Words.{word_count}
 use Rattle.decode.proofs.Asking.{never_refused}
 use Rattle.decode.proofs.stages.read_words.Goals as goal
 
-pub returns-in-err-read-all : goal.returns-in-err-read-all
-returns-in-err-read-all c =
-    absurd (never_refused fault.Words 0 (word_count c.args.rom.now) _ c.in-err-read-all.ensures.refusal)
+pub returns-in_err-read_all : goal.returns-in_err-read_all
+returns-in_err-read_all c =
+    absurd (never_refused fault.Words 0 (word_count c.args.rom.now) _ c.in_err-read_all.ensures.refusal)

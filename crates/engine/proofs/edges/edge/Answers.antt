@@ -11,8 +11,8 @@ returns g c =
     record {
       cases = (
         record { before_whole = omega arith; after_whole = omega arith; some_leaves = omega arith },
-        edge_all k d c.args.before.now c.edge-words.new.after (given_by k d c.args.line.now) (omega arith)
-            (λ i h. c.edge-words.ensures.nets i h ∙ c.edge-nets.ensures i h) c.edge-words.ensures.ram,
+        edge_all k d c.args.before.now c.edge_words.new.after (given_by k d c.args.line.now) (omega arith)
+            (λ i h. c.edge_words.ensures.nets i h ∙ c.edge_nets.ensures i h) c.edge_words.ensures.ram,
       );
-      leaves = c.blank-all-2.ensures ∙ ap (λ n. replicate n k.blank) c.edge-nets.auto.leaves;
+      leaves = c.blank_all-2.ensures ∙ ap (λ n. replicate n k.blank) c.edge_nets.auto.leaves;
     }

@@ -5,11 +5,11 @@ use Rattle.model.specs.Cycle.{at, edged, given_by}
 use Rattle.model.proofs.Sound.{sound_parts}
 use Rattle.engine.proofs.MemoryLemmas.{filled_more}
 use Rattle.engine.proofs.EdgeLemmas.{driver_is, inputs_more, counted_input, counted_rest, counted_once, edged_given}
-use Rattle.engine.proofs.edges.edge_nets.Goals.{in-Input, in-default}
+use Rattle.engine.proofs.edges.edge_nets.Goals.{in-Input, in_default}
 use Rattle.engine.proofs.edges.edge_nets.Goals as goal
 
-pub edged-net-requires : goal.edged-net-requires
-edged-net-requires g c =
+pub edged_net-requires : goal.edged_net-requires
+edged_net-requires g c =
     let d = core c.args.design.now in
     let i = c.loop-i.i in
     let h : i < length d.nets = omega (arith, ap length c.nets-nets.ensures) in
@@ -20,8 +20,8 @@ edged-net-requires g c =
       leaves = omega arith;
     }
 
-pub offset-bounds-after-i : goal.offset-bounds-after-i
-offset-bounds-after-i g c =
+pub offset_bounds-after-i : goal.offset_bounds-after-i
+offset_bounds-after-i g c =
     let h : c.loop-i.i < length c.args.after.now = omega (arith, ap length c.nets-nets.ensures) in
     search rules
 
@@ -38,12 +38,12 @@ loop-i-preserved g c =
     let counted : c.match-net.inputs ≡ c.loop-i.inputs + cond (is_input (driver_at d i)) 1 0 =
     elim c.match-net.branch [
       | in-Input w ↦ counted_input _ _ (driver_at d i) (sym is ∙ w.in-Input.is) w.inputs-is
-      | in-default w ↦ counted_rest _ _ (driver_at d i) (λ e. w.in-default.not-Input (is ∙ e)) w.inputs-is
+      | in_default w ↦ counted_rest _ _ (driver_at d i) (λ e. w.in_default.not-Input (is ∙ e)) w.inputs-is
     ] in (
       omega (arith, c.loop-i.invariant.0),
       omega (arith, counted_once (is_input (driver_at d i)), c.loop-i.invariant.1),
-      filled_more k (λ j. edged k d s given j (driver_at d j)) c.loop-i.after i c.edged-net.result (omega arith) c.loop-i.invariant.2
-          (c.edged-net.ensures ∙ edged_given k d s given c.given-at-given.result i _ (c.given-at-given.ensures ∙ ap (at k c.args.line.now) c.loop-i.invariant.0)
+      filled_more k (λ j. edged k d s given j (driver_at d j)) c.loop-i.after i c.edged_net.result (omega arith) c.loop-i.invariant.2
+          (c.edged_net.ensures ∙ edged_given k d s given c.given_at-given.result i _ (c.given_at-given.ensures ∙ ap (at k c.args.line.now) c.loop-i.invariant.0)
           ∙ ap (edged k d s given i) is),
     )
 

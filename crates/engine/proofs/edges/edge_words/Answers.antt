@@ -6,11 +6,11 @@ use Rattle.engine.proofs.edges.edge_words.Goals as goal
 pub loop-word-preserved : goal.loop-word-preserved
 loop-word-preserved g c =
     words_more g.V.Level.kind (core c.args.design.now) c.args.before.now c.args.after.now c.loop-word.after
-    c.edge-word.new.after c.loop-word.word c.edge-word.ensures.below c.edge-word.ensures.bits c.loop-word.invariant
+    c.edge_word.new.after c.loop-word.word c.edge_word.ensures.below c.edge_word.ensures.bits c.loop-word.invariant
 
 pub returns : goal.returns
 returns g c =
     record {
       nets = c.loop-word.invariant.nets;
-      ram = λ j h. c.loop-word.invariant.ram j (omega (arith, ap length c.ram_words.ensures));
+      ram = λ j h. c.loop-word.invariant.ram j (omega (arith, ap length c.ram-words.ensures));
     }

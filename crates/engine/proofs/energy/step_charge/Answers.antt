@@ -10,11 +10,11 @@ use Rattle.design.specs.Views.{core}
 use Rattle.engine.proofs.Charging.{flagged, net_drawn}
 use Rattle.engine.proofs.energy.step_charge.Goals as goal
 
-pub offset-bounds-before-write-enable : goal.offset-bounds-before-write-enable
-offset-bounds-before-write-enable g c = omega (arith, (sound_parts (core c.args.design.now) c.args.design.now.sound).enable_wire)
+pub offset_bounds-before-write_enable : goal.offset_bounds-before-write_enable
+offset_bounds-before-write_enable g c = omega (arith, (sound_parts (core c.args.design.now) c.args.design.now.sound).enable_wire)
 
-pub bounds-before-write-enable : goal.bounds-before-write-enable
-bounds-before-write-enable g c = omega (arith, (sound_parts (core c.args.design.now) c.args.design.now.sound).enable_wire)
+pub bounds-before-write_enable : goal.bounds-before-write_enable
+bounds-before-write_enable g c = omega (arith, (sound_parts (core c.args.design.now) c.args.design.now.sound).enable_wire)
 
 pub loop-i-init : goal.loop-i-init
 loop-i-init g c =
@@ -22,8 +22,8 @@ loop-i-init g c =
     let d = core c.args.design.now in
     let s = c.args.before.now in
     let within : c.write_enable.result < length s = omega (arith, (sound_parts d c.args.design.now.sound).enable_wire) in
-    let read : c.index-before-write-enable.result ≡ at k s c.write_enable.result =
-    get_or_read s c.write_enable.result _ within c.index-before-write-enable.is k.blank in
+    let read : c.index-before-write_enable.result ≡ at k s c.write_enable.result =
+    get_or_read s c.write_enable.result _ within c.index-before-write_enable.is k.blank in
     let writes : Bool = k.allows (at k s d.write_enable) true in
     let flag : c.from.result ≡ bool_byte writes =
     c.from.ensures ∙ ap bool_byte (c.allows.ensures ∙ ap (λ v. k.allows v true) (read ∙ ap (at k s) c.write_enable.ensures)) in
@@ -33,10 +33,10 @@ loop-i-init g c =
     let small : cond writes d.write_energy 0 ≤ d.write_energy = (flagged writes d.write_energy).1 in
     (omega arith, omega arith)
 
-pub overflow-add-total-in-loop-i : goal.overflow-add-total-in-loop-i
-overflow-add-total-in-loop-i g c =
+pub overflow_add-total-in-loop-i : goal.overflow_add-total-in-loop-i
+overflow_add-total-in-loop-i g c =
     let few = (sound_parts (core c.args.design.now) c.args.design.now.sound).few_nets in
-    record { fits = omega (arith, c.loop-i.invariant.1, c.net-charge-total.ensures.bound, ap length c.nets-net-items.ensures) }
+    record { fits = omega (arith, c.loop-i.invariant.1, c.net_charge-total.ensures.bound, ap length c.nets-net-items.ensures) }
 
 pub loop-i-preserved : goal.loop-i-preserved
 loop-i-preserved g c =
@@ -48,10 +48,10 @@ loop-i-preserved g c =
     let below : i < length d.nets = omega (arith, ap length c.nets-net-items.ensures) in
     let old : c.index-before-i.result ≡ at k s i = get_or_read s i _ (omega (arith, c.requires)) c.index-before-i.is k.blank in
     let new : c.index-after-i.result ≡ at k t i = get_or_read t i _ (omega (arith, c.requires)) c.index-after-i.is k.blank in
-    let here : c.net-charge-total.result ≡ net_charge k d s t i =
-    c.net-charge-total.ensures.value ∙ net_drawn k d s t c.nets-net-items.result.now c.nets-net-items.ensures i _ c.loop-i-test.true _ _ old new in
+    let here : c.net_charge-total.result ≡ net_charge k d s t i =
+    c.net_charge-total.ensures.value ∙ net_drawn k d s t c.nets-net-items.result.now c.nets-net-items.ensures i _ c.loop-i-test.true _ _ old new in
     let more = sum_by-map-range_with_len_more (λ (x : ℕ). x) (net_charge k d c.args.before.now c.args.after.now) 0 c.loop-i.i c.loop-i.i (omega arith) in
-    (omega (arith, c.loop-i.invariant.0), omega (arith, c.loop-i.invariant.1, c.net-charge-total.ensures.bound))
+    (omega (arith, c.loop-i.invariant.0), omega (arith, c.loop-i.invariant.1, c.net_charge-total.ensures.bound))
 
 pub returns : goal.returns
 returns g c =

@@ -4,14 +4,14 @@ use Rattle.model.specs.Cycle.{settled_from, settle_net}
 use Rattle.design.specs.Views.{core}
 use Rattle.engine.proofs.Settling.{still, settled_more, gate_wired}
 use Rattle.engine.proofs.gates.settle_gates.Goals as goal
-use Rattle.engine.proofs.gates.settle_gates.Goals.{in-Gate, in-default}
+use Rattle.engine.proofs.gates.settle_gates.Goals.{in-Gate, in_default}
 
-pub gate-level-requires : goal.gate-level-requires
-gate-level-requires g c κs p =
+pub gate_level-requires : goal.gate_level-requires
+gate_level-requires g c p =
     omega (arith, gate_wired (core c.args.design.now) c.args.design.now.sound _ c.nets-net-items.ensures c.loop-i.i _ c.loop-i-test.true c.in-Gate.gate c.in-Gate.is p)
 
-pub offset-bounds-state-i : goal.offset-bounds-state-i
-offset-bounds-state-i g c =
+pub offset_bounds-state-i : goal.offset_bounds-state-i
+offset_bounds-state-i g c =
     let h : c.loop-i.i < length c.args.state.now = omega (arith, ap length c.nets-net-items.ensures) in search rules
 
 pub loop-i-preserved : goal.loop-i-preserved
@@ -22,11 +22,11 @@ loop-i-preserved g c =
     elim c.match-net.branch [
       | in-Gate w ↦
           settled_more k d c.nets-net-items.result.now c.nets-net-items.ensures c.loop-i.i _ s _ c.loop-i-test.true
-          (w.state-is ∙ ap (set s c.loop-i.i) w.gate-level.ensures ∙ ap (settle_net k d s c.loop-i.i) (sym w.in-Gate.is))
+          (w.state-is ∙ ap (set s c.loop-i.i) w.gate_level.ensures ∙ ap (settle_net k d s c.loop-i.i) (sym w.in-Gate.is))
           ∙ c.loop-i.invariant
-      | in-default w ↦
+      | in_default w ↦
           settled_more k d c.nets-net-items.result.now c.nets-net-items.ensures c.loop-i.i _ s _ c.loop-i-test.true
-          (w.state-is ∙ sym (still k d s c.loop-i.i _ w.in-default.not-Gate))
+          (w.state-is ∙ sym (still k d s c.loop-i.i _ w.in_default.not-Gate))
           ∙ c.loop-i.invariant
     ]
 

@@ -6,20 +6,20 @@ use Rattle.engine.proofs.Keying.{More, pilot_wired, key_more}
 use Rattle.engine.proofs.keys.pilots_key.Given as given
 use Rattle.engine.proofs.keys.pilots_key.Goals as goal
 
-pub offset-bounds-state-pilot : goal.offset-bounds-state-pilot
-offset-bounds-state-pilot g c =
+pub offset_bounds-state-pilot : goal.offset_bounds-state-pilot
+offset_bounds-state-pilot g c =
     omega (arith, pilot_wired (core c.args.design.now) c.args.design.now.sound _ c.pilots-pilot-items.ensures c.loop-i.i c.loop-i-test.true)
 
 pub bounds-state-pilot : goal.bounds-state-pilot
 bounds-state-pilot g c =
     omega (arith, pilot_wired (core c.args.design.now) c.args.design.now.sound _ c.pilots-pilot-items.ensures c.loop-i.i c.loop-i-test.true)
 
-pub at-weight-key-requires : goal.at-weight-key-requires
-at-weight-key-requires g c =
+pub at_weight-key-requires : goal.at_weight-key-requires
+at_weight-key-requires g c =
     omega (arith, pilot_wired (core c.args.design.now) c.args.design.now.sound _ c.pilots-pilot-items.ensures c.loop-i.i c.loop-i-test.true)
 
 -- one turn
-turn : (g : given.Over) (c : goal.After-at-weight-key g) → More g.V.Level.kind (core c.args.design.now) c.args.state.now c.loop-i.i c.loop-i.key c.at-weight-key.result
+turn : (g : given.Over) (c : goal.After-at_weight-key g) → More g.V.Level.kind (core c.args.design.now) c.args.state.now c.loop-i.i c.loop-i.key c.at_weight-key.result
 turn g c =
     let k = g.V.Level.kind in
     let d = core c.args.design.now in
@@ -30,10 +30,10 @@ turn g c =
     let within : get_or pilots i 0 < length s = omega arith in
     let read : c.index-state-pilot.result ≡ at k s (get_or pilots i 0) = get_or_read s (get_or pilots i 0) _ within c.index-state-pilot.is k.blank in
     key_more k d s pilots c.pilots-pilot-items.ensures i c.loop-i-test.true wired.1 c.index-state-pilot.result read
-    c.loop-i.key c.at-weight-key.result (c.at-weight-key.ensures ∙ ap (λ (b : Bool). cond b (2 ^ i) 0) c.allows.ensures) c.loop-i.invariant.0
+    c.loop-i.key c.at_weight-key.result (c.at_weight-key.ensures ∙ ap (λ (b : Bool). cond b (2 ^ i) 0) c.allows.ensures) c.loop-i.invariant.0
 
-pub overflow-add-key : goal.overflow-add-key
-overflow-add-key g c = record { fits = (turn g c).0 }
+pub overflow_add-key : goal.overflow_add-key
+overflow_add-key g c = record { fits = (turn g c).0 }
 
 pub loop-i-preserved : goal.loop-i-preserved
 loop-i-preserved g c = ((turn g c).1, (turn g c).2 ∙ c.loop-i.invariant.1)

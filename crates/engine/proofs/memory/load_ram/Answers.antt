@@ -12,8 +12,8 @@ loop-word-preserved g c =
     let s = c.args.state.now in
     let in_state : c.ram_place.result < length s = omega (arith, c.ram_place.ensures.within, c.requires.state) in
     filled_more k (λ j. at k s (length (core c.args.design.now).nets + (16 * j + c.args.bit)))
-    c.loop-word.leaves c.loop-word.word c.index-state-ram-place.result (omega arith) c.loop-word.invariant
-    (get_or_read s c.ram_place.result c.index-state-ram-place.result in_state c.index-state-ram-place.is k.blank
+    c.loop-word.leaves c.loop-word.word c.index-state-ram_place.result (omega arith) c.loop-word.invariant
+    (get_or_read s c.ram_place.result c.index-state-ram_place.result in_state c.index-state-ram_place.is k.blank
     ∙ ap (at k s) c.ram_place.ensures.place)
 
 pub returns : goal.returns

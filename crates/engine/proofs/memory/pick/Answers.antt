@@ -17,11 +17,11 @@ loop-wire-preserved g c =
     let wires = map (at k c.args.state.now) c.args.address.now in
     let h = c.loop-wire-test.true in
     let long = length-map c.args.address.now (at k c.args.state.now) in
-    left_more k wires c.args.leaves.now i c.loop-wire.width _ c.loop-wire.leaves c.pair-up.new.leaves _
+    left_more k wires c.args.leaves.now i c.loop-wire.width _ c.loop-wire.leaves c.pair_up.new.leaves _
     c.index-state-wire.result k.blank (omega arith)
     (get_or_read c.args.state.now _ c.index-state-wire.result (c.requires.wires i h) c.index-state-wire.is k.blank
     ∙ sym (get_or-map (at k c.args.state.now) c.args.address.now i 0 k.blank h))
-    (omega arith) c.pair-up.auto.leaves c.pair-up.ensures c.loop-wire.invariant
+    (omega arith) c.pair_up.auto.leaves c.pair_up.ensures c.loop-wire.invariant
 
 pub returns : goal.returns
 returns g c =

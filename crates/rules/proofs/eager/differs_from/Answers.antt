@@ -2,8 +2,8 @@ use Rattle.std.proofs.Common.{◌+◌, Bool, ◌||◌, length, get_or, drop, sym
 use Rattle.std.proofs.lemmas.Bool.{cases_lt}
 use Rattle.levels.specs.declared.Tri.TheVariants.{Zero}
 use Rattle.rules.specs.Merges.{differ}
-use Rattle.rules.specs.States.{told_apart}
 use Rattle.rules.specs.Places.{differ_more, differ_past}
+use Rattle.rules.proofs.Levels.{told_differ}
 use Rattle.rules.proofs.eager.differs_from.Goals as goal
 
 pub returns-then-ne : goal.returns-then-ne
@@ -11,7 +11,7 @@ returns-then-ne c =
     let kept = c.args.kept.now in
     let state = c.args.state.now in
     let i = c.loop-i.i in
-    let told = told_apart (get_or kept i Zero) (get_or state i Zero) c.ne.ensures.0 c.ne.result c.ne.ensures.1 c.ne.ensures.2 in
+    let told = told_differ (get_or kept i Zero) (get_or state i Zero) c.ne.result c.ne.ensures in
     sym (c.loop-i.invariant ∙ differ_more kept state i Zero Zero (omega arith) (omega arith)
     ∙ ap (λ (b : Bool). b || differ (drop (i + 1) kept) (drop (i + 1) state)) (told ∙ c.if-ne.true))
 
@@ -20,7 +20,7 @@ loop-i-preserved c =
     let kept = c.args.kept.now in
     let state = c.args.state.now in
     let i = c.loop-i.i in
-    let told = told_apart (get_or kept i Zero) (get_or state i Zero) c.ne.ensures.0 c.ne.result c.ne.ensures.1 c.ne.ensures.2 in
+    let told = told_differ (get_or kept i Zero) (get_or state i Zero) c.ne.result c.ne.ensures in
     c.loop-i.invariant ∙ differ_more kept state i Zero Zero (omega arith) (omega arith)
     ∙ ap (λ (b : Bool). b || differ (drop (i + 1) kept) (drop (i + 1) state)) (told ∙ c.if-ne.false)
 

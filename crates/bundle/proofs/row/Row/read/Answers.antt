@@ -4,12 +4,12 @@ use Rattle.bundle.proofs.row.Row.read.Goals as goal
 
 pub returns : goal.returns
 returns c =
-    let got = c.in-ok-get.ensures.lookup.0 in
-    row_from_stretch c.args.bytes.now c.in-ok-get.field-0.now c.args.index c.in-ok-start.start c.in-ok-end.end
-    c.from-le-bytes-count.result c.from-le-bytes-offset.result
-    (omega (arith, c.in-ok-start.ensures, c.in-ok-checked-mul.ensures))
-    (omega (arith, c.in-ok-end.ensures))
+    let got = c.in_ok-get.ensures.lookup.0 in
+    row_from_stretch c.args.bytes.now c.in_ok-get.field-0.now c.args.index c.in_ok-start.start c.in_ok-end.end
+    c.from_le_bytes-count.result c.from_le_bytes-offset.result
+    (omega (arith, c.in_ok-start.ensures, c.in_ok-checked_mul.ensures))
+    (omega (arith, c.in_ok-end.ensures))
     got.1
     got.2
-    c.from-le-bytes-count.ensures
-    c.from-le-bytes-offset.ensures
+    c.from_le_bytes-count.ensures
+    c.from_le_bytes-offset.ensures
