@@ -8,7 +8,7 @@ use levels::Level;
 // Every pilot at its bit of the key, the first at the lowest.
 pub(crate) fn set_pilots<V: Level>(pilots: &[u16], key: u16, state: &mut [V])
     requires { Within pilots.now state.old }
-    ensures { state.new ≡ keyed kind pilots.now key state.old }
+    ensures { state.new ≡ keyed V.kind pilots.now key state.old }
 {
     let mut bits = key;
     for pilot in pilots {
@@ -18,7 +18,7 @@ pub(crate) fn set_pilots<V: Level>(pilots: &[u16], key: u16, state: &mut [V])
 }
 
 fn is_unknown<V: Level>(level: V) -> bool
-    ensures { result ≡ is_unknown kind level }
+    ensures { result ≡ is_unknown V.kind level }
 {
     level.allows(false) & level.allows(true)
 }
@@ -27,7 +27,7 @@ fn is_unknown<V: Level>(level: V) -> bool
 pub(crate) fn count_unknown<V: Level>(pilots: &[u16], state: &[V]) -> u32
     requires within { Within pilots.now state.now }
     requires few { length pilots.now ≤ 16 }
-    ensures value { result ≡ unknowns kind pilots.now state.now }
+    ensures value { result ≡ unknowns V.kind pilots.now state.now }
     ensures bound { result ≤ 16 }
 {
     let mut count = 0;
@@ -43,7 +43,7 @@ pub(crate) fn count_unknown<V: Level>(pilots: &[u16], state: &[V]) -> u32
 pub(crate) fn choice_key<V: Level>(pilots: &[u16], state: &[V], choice: u32) -> u16
     requires within { Within pilots.now state.now }
     requires few { length pilots.now ≤ 16 }
-    ensures { result ≡ choice_key kind pilots.now state.now choice }
+    ensures { result ≡ choice_key V.kind pilots.now state.now choice }
 {
     let mut key = 0;
     let mut bits = choice;

@@ -14,7 +14,7 @@ use model::{Driver, Net};
 // Every constant net at its own bit.
 fn set_constants<V: Level>(nets: &[Net], state: &mut [V])
     requires { length nets.now ≤ length state.old }
-    ensures { (d : Core) → state.new ≡ with_constants kind d 0 nets.now state.old }
+    ensures { (d : Core) → state.new ≡ with_constants V.kind d 0 nets.now state.old }
 {
     for (i, net) in nets.iter().enumerate() {
         if let Driver::Constant { bit } = net.driver {
@@ -28,7 +28,7 @@ fn set_constants<V: Level>(nets: &[Net], state: &mut [V])
 pub fn restore<V: Level>(design: &Design, key: u16, state: &mut [V]) -> Result<(), Refusal>
     ensures { MatchResult result
         (λ _. (length state.old ≡ places (core design.now))
-        × (state.new ≡ restored kind (core design.now) key state.old))
+        × (state.new ≡ restored V.kind (core design.now) key state.old))
         (λ e. (length state.old ≢ places (core design.now))
         × (e ≡ wrong_memory) × (state.new ≡ state.old)) }
 {

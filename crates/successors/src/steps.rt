@@ -24,12 +24,12 @@ pub fn advance<V: Level>(
 ) -> Result<u32, Refusal>
     ensures cases { MatchResult result
         (λ count. EdgeMemory (core design.now) state.now next.old leaves.old
-        × (next.new ≡ edge kind (core design.now) state.now (unknown_inputs kind (core design.now)))
-        × (count ≡ length (successor_keys kind (core design.now) state.now)))
+        × (next.new ≡ edge V.kind (core design.now) state.now (unknown_inputs V.kind (core design.now)))
+        × (count ≡ length (successor_keys V.kind (core design.now) state.now)))
         (λ e. (EdgeMemory (core design.now) state.now next.old leaves.old → ⊥)
         × (e ≡ wrong_memory) × (next.new ≡ next.old)) }
     ensures bound { IfOk result (λ count. count ≤ 65536) }
-    ensures leaves { leaves.new ≡ replicate (length leaves.old) kind.blank }
+    ensures leaves { leaves.new ≡ replicate (length leaves.old) V.kind.blank }
 {
     engine::edge(design, state, &[], next, leaves)?;
     Ok(1 << count_unknown(design.pilots(), next))
@@ -47,16 +47,16 @@ pub fn successor<V: Level>(
 ) -> Result<(u16, u32), Refusal>
     ensures cases { MatchResult result
         (λ answer. SuccessorMemory (core design.now) state.now next.now slot.old
-        × (answer.0 ≡ choice_key kind (core design.now).pilots next.now choice)
-        × (slot.new ≡ settled kind (core design.now) (keyed kind (core design.now).pilots answer.0 next.now))
-        × (answer.1 ≡ drawn kind (core design.now) state.now slot.new))
+        × (answer.0 ≡ choice_key V.kind (core design.now).pilots next.now choice)
+        × (slot.new ≡ settled V.kind (core design.now) (keyed V.kind (core design.now).pilots answer.0 next.now))
+        × (answer.1 ≡ drawn V.kind (core design.now) state.now slot.new))
         (λ e. (SuccessorMemory (core design.now) state.now next.now slot.old → ⊥)
         × (e ≡ wrong_memory) × (slot.new ≡ slot.old)) }
     ensures among { IfOk result
-        (λ answer. next.now ≡ edge kind (core design.now) state.now (unknown_inputs kind (core design.now))
-        → choice < length (successor_keys kind (core design.now) state.now)
-        → (answer.0 ≡ slice_index (successor_keys kind (core design.now) state.now) choice)
-        × (slot.new ≡ after_key kind (core design.now) state.now answer.0)) }
+        (λ answer. next.now ≡ edge V.kind (core design.now) state.now (unknown_inputs V.kind (core design.now))
+        → choice < length (successor_keys V.kind (core design.now) state.now)
+        → (answer.0 ≡ slice_index (successor_keys V.kind (core design.now) state.now) choice)
+        × (slot.new ≡ after_key V.kind (core design.now) state.now answer.0)) }
 {
     let places = design.places();
     if state.len() != places || next.len() != places || slot.len() != places {

@@ -6,13 +6,13 @@ use Rattle.player.proofs.lines.are_levels.Goals as goal
 pub loop-byte-preserved : goal.loop-byte-preserved
 loop-byte-preserved c =
     levels_more c.args.part.now c.loop-byte.byte-index c.loop-byte-test.true
-    (ap is_level (sym c.read-character.ensures) ∙ level_from c.read-character.result _ c.in-Level.is)
+    (ap is_level (sym c.read_character.ensures) ∙ level_from c.read_character.result _ c.in-Level.is)
     ∙ c.loop-byte.invariant
 
-pub returns-in-default : goal.returns-in-default
-returns-in-default c =
+pub returns-in_default : goal.returns-in_default
+returns-in_default c =
     sym (levels_stop c.args.part.now c.loop-byte.byte-index c.loop-byte-test.true
-    (ap is_level (sym c.read-character.ensures) ∙ no_level_from c.read-character.result c.in-default.not-Level))
+    (ap is_level (sym c.read_character.ensures) ∙ no_level_from c.read_character.result c.in_default.not-Level))
     ∙ c.loop-byte.invariant
 
 pub returns : goal.returns

@@ -11,14 +11,14 @@ returns-then-rest-inputs c =
 
 pub returns-in-Newline : goal.returns-in-Newline
 returns-in-Newline c =
-    c.are-levels.ensures
+    c.are_levels.ensures
     ∙ ap (λ (n : ℕ). all_levels (take n (take (length c.args.text.now - c.args.start) (drop c.args.start c.args.text.now)))) (sub-zero c.args.inputs)
     ∙ ap (λ (xs : List ℕ). all_levels (take c.args.inputs xs)) (take_rest c.args.text.now c.args.start)
     ∙ newline_ends _ _ (ap character (sym (rest_at c.args.text.now c.args.start c.args.inputs)) ∙ sym c.in-Newline.ensures)
 
-pub returns-in-default : goal.returns-in-default
-returns-in-default c =
+pub returns-in_default : goal.returns-in_default
+returns-in_default c =
     sym (no_newline _ _
     (ap (λ (b : ℕ). is_newline (character b)) (sym (rest_at c.args.text.now c.args.start c.args.inputs))
-    ∙ ap is_newline (sym c.read-character.ensures)
-    ∙ no_newline_from c.read-character.result c.in-default.not-Newline))
+    ∙ ap is_newline (sym c.read_character.ensures)
+    ∙ no_newline_from c.read_character.result c.in_default.not-Newline))

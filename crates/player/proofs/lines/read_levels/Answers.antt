@@ -7,7 +7,7 @@ use Rattle.player.proofs.lines.read_levels.Goals as goal
 pub loop-i-preserved : goal.loop-i-preserved
 loop-i-preserved c =
     take_more_set c.loop-i.levels c.loop-i.i c.level.result (omega arith)
-    ∙ ap₂ (λ (xs : List Bit) (x : Bit). xs ++ (x ∷ [])) c.loop-i.invariant (c.level.ensures ∙ ap level_of c.read-character.ensures)
+    ∙ ap₂ (λ (xs : List Bit) (x : Bit). xs ++ (x ∷ [])) c.loop-i.invariant (c.level.ensures ∙ ap level_of c.read_character.ensures)
     ∙ sym (map_more (λ (b : ℕ). level_of (character b)) c.args.line.now c.loop-i.i 0 c.loop-i-test.true)
 
 pub returns : goal.returns

@@ -2,7 +2,7 @@ use Rattle.std.proofs.Common.{true, false, ap, arith}
 use Rattle.model.specs.Core.{tally, is_input}
 use Rattle.model.proofs.Tallies.{tally_more, tally_all, no_input_from}
 use Rattle.player.proofs.run.count_inputs.Goals as goal
-use Rattle.player.proofs.run.count_inputs.Goals.{in-Input, in-default}
+use Rattle.player.proofs.run.count_inputs.Goals.{in-Input, in_default}
 
 pub loop-net-preserved : goal.loop-net-preserved
 loop-net-preserved c =
@@ -10,9 +10,9 @@ loop-net-preserved c =
       | in-Input w ↦
           let more = tally_more is_input c.args.nets.now c.loop-net.net-index _ true c.loop-net-test.true (ap is_input w.in-Input.is) in
           (omega (arith, w.count-is, c.loop-net.invariant.0), omega (arith, w.count-is))
-      | in-default w ↦
+      | in_default w ↦
           let more = tally_more is_input c.args.nets.now c.loop-net.net-index _ false c.loop-net-test.true
-          (no_input_from _ w.in-default.not-Input) in
+          (no_input_from _ w.in_default.not-Input) in
           (omega (arith, w.count-is, c.loop-net.invariant.0), omega (arith, w.count-is))
     ]
 

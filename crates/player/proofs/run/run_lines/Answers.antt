@@ -12,7 +12,7 @@ use Rattle.player.proofs.run.run_lines.Goals as goal
 pub loop-line-init : goal.loop-line-init
 loop-line-init c = (
   running_none (core c.args.design.now) c.args.text.now c.args.lines c.args.state.now c.args.cycles.now,
-  c.in-ok-shown.ensures.1,
+  c.in_ok-shown.ensures.1,
 )
 
 pub returns-then-shown-eq1 : goal.returns-then-shown-eq1
@@ -23,12 +23,12 @@ returns-then-shown-eq1 c =
     ran_from d c.args.text.now c.args.lines c.loop-line.line c.args.state.now c.loop-line.state
     c.args.cycles.now c.loop-line.cycles (omega arith) end.0 end.1 c.loop-line.invariant.0
 
-counted : (c : goal.Else-shown-eq1) → c.count-inputs-inputs.result ≡ inputs (core c.args.design.now)
-counted c = c.count-inputs-inputs.ensures ∙ ap (tally is_input) c.nets.ensures
+counted : (c : goal.Else-shown-eq1) → c.count_inputs-inputs.result ≡ inputs (core c.args.design.now)
+counted c = c.count_inputs-inputs.ensures ∙ ap (tally is_input) c.nets.ensures
 
-pub line-of-requires : goal.line-of-requires
-line-of-requires c =
-    line_inside c.loop-line.line c.args.lines (c.count-inputs-inputs.result + 1) (length c.args.text.now) c.loop-line-test.true
+pub line_of-requires : goal.line_of-requires
+line_of-requires c =
+    line_inside c.loop-line.line c.args.lines (c.count_inputs-inputs.result + 1) (length c.args.text.now) c.loop-line-test.true
     (subst (λ (n : ℕ). c.args.lines * (n + 1) ≤ length c.args.text.now) (sym (counted c)) c.requires.text)
 
 pub loop-line-preserved : goal.loop-line-preserved
@@ -36,12 +36,12 @@ loop-line-preserved c =
     let d = core c.args.design.now in
     let even : halted bit_kind d c.loop-line.state ≡ false =
     even_goes _ (λ e. c.if-shown-eq1.false (ap (λ (k : ℕ). k % 2) c.loop-line.invariant.1 ∙ e)) in
-    let after = c.in-ok-cycle.ensures in
-    let line : c.line-of.result.now ≡ line_bytes (inputs d) c.args.text.now c.loop-line.line =
-    c.line-of.ensures.value
-    ∙ ap (λ (n : ℕ). line_bytes n c.args.text.now c.loop-line.line) (c.count-inputs-inputs.ensures ∙ ap (tally is_input) c.nets.ensures) in (
+    let after = c.in_ok-cycle.ensures in
+    let line : c.line_of.result.now ≡ line_bytes (inputs d) c.args.text.now c.loop-line.line =
+    c.line_of.ensures.value
+    ∙ ap (λ (n : ℕ). line_bytes n c.args.text.now c.loop-line.line) (c.count_inputs-inputs.ensures ∙ ap (tally is_input) c.nets.ensures) in (
       running_more d c.args.text.now c.args.lines c.loop-line.line c.args.state.now c.loop-line.state c.step.new.state
-          c.args.cycles.now c.loop-line.cycles c.in-ok-cycle.cycle c.loop-line-test.true (omega arith) even
+          c.args.cycles.now c.loop-line.cycles c.in_ok-cycle.cycle c.loop-line-test.true (omega arith) even
           (after.0 ∙ ap (λ (bs : List ℕ). cycle_of d bs c.loop-line.state) line) after.1 c.loop-line.invariant.0,
       ap (λ (x : Cycle). x.key) after.1,
     )

@@ -7,16 +7,16 @@ use Rattle.successors.proofs.covering.covers.Goals as goal
 pub returns-then-kept-state : goal.returns-then-kept-state
 returns-then-kept-state g c = sym (covers_unequal g.V.Level.kind c.args.kept.now c.args.state.now c.if-kept-state.true)
 
-pub returns-then-not-level-covers : goal.returns-then-not-level-covers
-returns-then-not-level-covers g c =
+pub returns-then-not-level_covers : goal.returns-then-not-level_covers
+returns-then-not-level_covers g c =
     sym (covers_more g.V.Level.kind c.args.kept.now c.args.state.now c.loop-i.i _ _ _ c.if-kept-state.false
-    c.loop-i-test.true c.index-kept-i.is c.index-state-i.is c.if-not-level-covers.ensures)
+    c.loop-i-test.true c.index-kept-i.is c.index-state-i.is c.if-not-level_covers.ensures)
     ∙ c.loop-i.invariant
 
 pub loop-i-preserved : goal.loop-i-preserved
 loop-i-preserved g c =
     sym (covers_more g.V.Level.kind c.args.kept.now c.args.state.now c.loop-i.i _ _ _ c.if-kept-state.false
-    c.loop-i-test.true c.index-kept-i.is c.index-state-i.is c.if-not-level-covers.ensures)
+    c.loop-i-test.true c.index-kept-i.is c.index-state-i.is c.if-not-level_covers.ensures)
     ∙ c.loop-i.invariant
 
 pub returns : goal.returns

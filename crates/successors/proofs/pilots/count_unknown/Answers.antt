@@ -3,7 +3,7 @@ use Rattle.std.proofs.lemmas.List.{at_drop_all, get_or_read}
 use Rattle.model.specs.Cycle.{at}
 use Rattle.record.specs.Record.{unknowns, is_unknown}
 use Rattle.successors.proofs.PilotLemmas.{unknowns_more}
-use Rattle.successors.proofs.pilots.count_unknown.Goals.{then-is-unknown, else-is-unknown}
+use Rattle.successors.proofs.pilots.count_unknown.Goals.{then-is_unknown, else-is_unknown}
 use Rattle.successors.proofs.pilots.count_unknown.Goals as goal
 
 pub loop-pilot-preserved : goal.loop-pilot-preserved
@@ -16,12 +16,12 @@ loop-pilot-preserved g c =
     let known : c.is_unknown.result ≡ is_unknown k (at k s (get_or ps i 0)) = c.is_unknown.ensures ∙ ap (is_unknown k) level in
     let more : unknowns k (drop i ps) s ≡ cond c.is_unknown.result 1 0 + unknowns k (drop (i + 1) ps) s =
     unknowns_more k ps i s c.loop-pilot-test.true ∙ ap (λ (b : Bool). cond b 1 0 + unknowns k (drop (i + 1) ps) s) (sym known) in
-    elim c.if-is-unknown.branch [
-      | then-is-unknown w ↦
-          let one : cond {A = ℕ} c.is_unknown.result 1 0 ≡ 1 = ap (λ (b : Bool). cond {A = ℕ} b 1 0) w.if-is-unknown.true in
+    elim c.if-is_unknown.branch [
+      | then-is_unknown w ↦
+          let one : cond {A = ℕ} c.is_unknown.result 1 0 ≡ 1 = ap (λ (b : Bool). cond {A = ℕ} b 1 0) w.if-is_unknown.true in
           (omega (arith, w.count-is), omega (arith, w.count-is, c.loop-pilot.invariant.1))
-      | else-is-unknown w ↦
-          let none : cond {A = ℕ} c.is_unknown.result 1 0 ≡ 0 = ap (λ (b : Bool). cond {A = ℕ} b 1 0) w.if-is-unknown.false in
+      | else-is_unknown w ↦
+          let none : cond {A = ℕ} c.is_unknown.result 1 0 ≡ 0 = ap (λ (b : Bool). cond {A = ℕ} b 1 0) w.if-is_unknown.false in
           (omega (arith, w.count-is), omega (arith, w.count-is, c.loop-pilot.invariant.1))
     ]
 

@@ -4,8 +4,8 @@ use Rattle.successors.proofs.ConstantLemmas.{restored_all}
 use Rattle.successors.proofs.SuccessorLemmas.{pilots_within}
 use Rattle.successors.proofs.restoring.restore.Goals as goal
 
-pub set-pilots-requires : goal.set-pilots-requires
-set-pilots-requires g c =
+pub set_pilots-requires : goal.set_pilots-requires
+set_pilots-requires g c =
     pilots_within (core c.args.design.now) c.args.design.now.sound _ c.pilots.ensures c.args.state.now
     (c.if-state-places.false ∙ c.places.ensures)
 
@@ -13,6 +13,6 @@ pub returns : goal.returns
 returns g c =
     let d = core c.args.design.now in (
       c.if-state-places.false ∙ c.places.ensures,
-      restored_all g.V.Level.kind d c.pilots.result.now c.nets.result.now c.args.key c.args.state.now c.set-pilots.new.state
-          c.set-constants.new.state c.pilots.ensures c.nets.ensures c.set-pilots.ensures (c.set-constants.ensures d),
+      restored_all g.V.Level.kind d c.pilots.result.now c.nets.result.now c.args.key c.args.state.now c.set_pilots.new.state
+          c.set_constants.new.state c.pilots.ensures c.nets.ensures c.set_pilots.ensures (c.set_constants.ensures d),
     )

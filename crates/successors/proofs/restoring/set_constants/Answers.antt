@@ -4,7 +4,7 @@ use Rattle.model.specs.declared.net.Net.{Net}
 use Rattle.record.specs.Record.{constant_at, with_constants}
 use Rattle.successors.proofs.ConstantLemmas.{no_constant, constants_more}
 use Rattle.successors.proofs.restoring.set_constants.Goals as goal
-use Rattle.successors.proofs.restoring.set_constants.Goals.{in-Constant, in-default}
+use Rattle.successors.proofs.restoring.set_constants.Goals.{in-Constant, in_default}
 
 pub loop-i-preserved : goal.loop-i-preserved
 loop-i-preserved g c d =
@@ -16,9 +16,9 @@ loop-i-preserved g c d =
           constants_more k d c.args.nets.now i _ s _ c.loop-i-test.true
           (w.state-is ∙ ap (set s i) w.of_bit.ensures ∙ ap (λ x. constant_at k d x s i) (sym w.in-Constant.is))
           ∙ c.loop-i.invariant d
-      | in-default w ↦
+      | in_default w ↦
           constants_more k d c.args.nets.now i _ s _ c.loop-i-test.true
-          (w.state-is ∙ sym (no_constant k d _ s i w.in-default.not-Constant))
+          (w.state-is ∙ sym (no_constant k d _ s i w.in_default.not-Constant))
           ∙ c.loop-i.invariant d
     ]
 

@@ -4,8 +4,8 @@ use Rattle.record.specs.Record.{choice_key}
 use Rattle.successors.proofs.SuccessorLemmas.{pilots_few, pilots_within, slot_settled, successor_among}
 use Rattle.successors.proofs.steps.successor.Goals as goal
 
-pub choice-key-key-requires : goal.choice-key-key-requires
-choice-key-key-requires g c =
+pub choice_key-key-requires : goal.choice_key-key-requires
+choice_key-key-requires g c =
     let d = core c.args.design.now in
     let sound = c.args.design.now.sound in
     record {
@@ -13,28 +13,28 @@ choice-key-key-requires g c =
       few = pilots_few d sound _ c.pilots-pilots.ensures;
     }
 
-pub set-pilots-requires : goal.set-pilots-requires
-set-pilots-requires g c =
-    pilots_within (core c.args.design.now) c.args.design.now.sound _ c.pilots-pilots.ensures c.copy-from-slice.new.self
-    (c.copy-from-slice.ensures.len ∙ c.if-slot-places.false ∙ c.places-places.ensures)
+pub set_pilots-requires : goal.set_pilots-requires
+set_pilots-requires g c =
+    pilots_within (core c.args.design.now) c.args.design.now.sound _ c.pilots-pilots.ensures c.copy_from_slice.new.self
+    (c.copy_from_slice.ensures.len ∙ c.if-slot-places.false ∙ c.places-places.ensures)
 
 pub returns : goal.returns
 returns g c =
     let k = g.V.Level.kind in
     let d = core c.args.design.now in
     let next = c.args.next.now in
-    let key = c.choice-key-key.result in
+    let key = c.choice_key-key.result in
     let chosen : key ≡ choice_key k d.pilots next c.args.choice =
-    c.choice-key-key.ensures ∙ ap (λ (ps : List ℕ). choice_key k ps next c.args.choice) c.pilots-pilots.ensures in
-    let settles = slot_settled k d c.pilots-pilots.result.now key next c.copy-from-slice.new.self c.set-pilots.new.state
-    c.settle.new.state c.pilots-pilots.ensures c.copy-from-slice.ensures.after c.set-pilots.ensures
-    c.in-ok-settle.ensures.1 in
+    c.choice_key-key.ensures ∙ ap (λ (ps : List ℕ). choice_key k ps next c.args.choice) c.pilots-pilots.ensures in
+    let settles = slot_settled k d c.pilots-pilots.result.now key next c.copy_from_slice.new.self c.set_pilots.new.state
+    c.settle.new.state c.pilots-pilots.ensures c.copy_from_slice.ensures.after c.set_pilots.ensures
+    c.in_ok-settle.ensures.1 in
     record {
       cases = (
         record { state_whole = omega arith; next_whole = omega arith; slot_whole = omega arith },
         chosen,
         settles,
-        c.in-ok-energy.ensures.2,
+        c.in_ok-energy.ensures.2,
       );
       among = successor_among k d c.args.state.now next c.settle.new.state c.args.choice key chosen settles;
     }
