@@ -110,24 +110,24 @@ impl Lent {
         self.other.fill(7);
     }
 
-    fn scratch_is_cleared(&self) -> Result<(), Fail> {
+    fn scratch_is_cleared(&self, rt: &impl Abort) -> Result<(), Fail> {
         for level in self.scratch.iter() {
-            assert!(*level == Tri::X);
+            assert!(rt; *level == Tri::X);
         }
         Ok(())
     }
 
-    fn rows_are_cleared(&self) -> Result<(), Fail> {
+    fn rows_are_cleared(&self, rt: &impl Abort) -> Result<(), Fail> {
         for value in self.row.iter() {
-            assert_eq!(*value, 0);
+            assert_eq!(rt; *value, 0);
         }
         for value in self.other.iter() {
-            assert_eq!(*value, 0);
+            assert_eq!(rt; *value, 0);
         }
         Ok(())
     }
 
-    pub(crate) fn make(&mut self, design: &Design) -> Result<Result<(), Refusal>, Fail> {
+    pub(crate) fn make(&mut self, rt: &impl Abort, design: &Design) -> Result<Result<(), Refusal>, Fail> {
         let before = self.copy()?;
         self.spoil();
         let answer = self.exploration.make(
@@ -137,15 +137,16 @@ impl Lent {
             &self.kept,
             &mut self.scratch,
         );
-        self.scratch_is_cleared()?;
+        self.scratch_is_cleared(rt)?;
         if answer.is_err() {
-            assert!(self.equals(&before));
+            assert!(rt; self.equals(&before));
         }
         Ok(answer)
     }
 
     pub(crate) fn start(
         &mut self,
+        rt: &impl Abort,
         design: &Design,
         number: usize,
     ) -> Result<Result<usize, Refusal>, Fail> {
@@ -159,15 +160,16 @@ impl Lent {
             &self.kept,
             &mut self.scratch,
         );
-        self.scratch_is_cleared()?;
+        self.scratch_is_cleared(rt)?;
         if answer.is_err() {
-            assert!(self.equals(&before));
+            assert!(rt; self.equals(&before));
         }
         Ok(answer)
     }
 
     pub(crate) fn walk<R: Rule>(
         &mut self,
+        rt: &impl Abort,
         design: &Design,
         rule: &R,
         budget: u16,
@@ -183,16 +185,16 @@ impl Lent {
             &mut self.kept,
             &mut self.scratch,
         );
-        self.scratch_is_cleared()?;
+        self.scratch_is_cleared(rt)?;
         if ending != Ending::Spent && ending != Ending::Done {
-            before.take(design, rule, taken)?;
-            assert!(self.equals(&before));
+            before.take(rt, design, rule, taken)?;
+            assert!(rt; self.equals(&before));
         }
         Ok((taken, ending))
     }
 
     // Takes so many points, if any.
-    fn take<R: Rule>(&mut self, design: &Design, rule: &R, count: usize) -> Result<(), Fail> {
+    fn take<R: Rule>(&mut self, rt: &impl Abort, design: &Design, rule: &R, count: usize) -> Result<(), Fail> {
         if count != 0 {
             let answer = self.exploration.walk(
                 design,
@@ -203,12 +205,12 @@ impl Lent {
                 &mut self.kept,
                 &mut self.scratch,
             );
-            assert_eq!(answer, (count, Ending::Spent));
+            assert_eq!(rt; answer, (count, Ending::Spent));
         }
         Ok(())
     }
 
-    pub(crate) fn peak(&mut self, design: &Design) -> Result<Result<u32, Refusal>, Fail> {
+    pub(crate) fn peak(&mut self, rt: &impl Abort, design: &Design) -> Result<Result<u32, Refusal>, Fail> {
         self.spoil();
         let answer = self.exploration.peak(
             design,
@@ -217,17 +219,18 @@ impl Lent {
             &self.kept,
             &mut self.scratch,
         );
-        self.scratch_is_cleared()?;
+        self.scratch_is_cleared(rt)?;
         Ok(answer)
     }
 
     // The window; peak and window together are answered and refused alike.
     pub(crate) fn window(
         &mut self,
+        rt: &impl Abort,
         design: &Design,
         width: u16,
     ) -> Result<Result<u64, Refusal>, Fail> {
-        let both = self.figures(design, width)?;
+        let both = self.figures(rt, design, width)?;
         self.spoil();
         let answer = self.exploration.window(
             design,
@@ -239,19 +242,19 @@ impl Lent {
             &mut self.row,
             &mut self.other,
         );
-        self.scratch_is_cleared()?;
-        self.rows_are_cleared()?;
+        self.scratch_is_cleared(rt)?;
+        self.rows_are_cleared(rt)?;
         match answer {
             Ok(window) => {
-                let peak = self.peak(design)??;
-                assert!(both == Ok(Figures { peak, window }));
+                let peak = self.peak(rt, design)??;
+                assert!(rt; both == Ok(Figures { peak, window }));
             }
-            Err(refusal) => assert!(both == Err(refusal)),
+            Err(refusal) => assert!(rt; both == Err(refusal)),
         }
         Ok(answer)
     }
 
-    fn figures(&mut self, design: &Design, width: u16) -> Result<Result<Figures, Refusal>, Fail> {
+    fn figures(&mut self, rt: &impl Abort, design: &Design, width: u16) -> Result<Result<Figures, Refusal>, Fail> {
         self.spoil();
         let answer = self.exploration.figures(
             design,
@@ -263,8 +266,8 @@ impl Lent {
             &mut self.row,
             &mut self.other,
         );
-        self.scratch_is_cleared()?;
-        self.rows_are_cleared()?;
+        self.scratch_is_cleared(rt)?;
+        self.rows_are_cleared(rt)?;
         Ok(answer)
     }
 }

@@ -76,18 +76,18 @@ fn take_step<R: Rule>(
         Step::Rows(row, other) => lent.lend_rows(row, other),
         Step::Write(number, origin, fate) => lent.write(number, origin, fate),
         Step::Make(text) => {
-            let made = match lent.make(design)? {
+            let made = match lent.make(rt, design)? {
                 Ok(()) => Ok("made"),
                 Err(refusal) => Err(refusal),
             };
             answers(rt, said(made, heap)?, text)
         }
-        Step::Start(number, text) => answers(rt, said(lent.start(design, number)?, heap)?, text),
+        Step::Start(number, text) => answers(rt, said(lent.start(rt, design, number)?, heap)?, text),
         Step::Walk(budget, text) => {
-            answers(rt, walk_said(lent.walk(design, rule, budget)?, heap)?, text)
+            answers(rt, walk_said(lent.walk(rt, design, rule, budget)?, heap)?, text)
         }
-        Step::Peak(text) => answers(rt, said(lent.peak(design)?, heap)?, text),
-        Step::Window(width, text) => answers(rt, said(lent.window(design, width)?, heap)?, text),
+        Step::Peak(text) => answers(rt, said(lent.peak(rt, design)?, heap)?, text),
+        Step::Window(width, text) => answers(rt, said(lent.window(rt, design, width)?, heap)?, text),
         Step::List(text) => answers(rt, listing(lent, heap)?, text),
     }
 }
@@ -101,8 +101,8 @@ pub(crate) fn follow<R: Rule>(
     steps: &[Step],
     heap: Global,
 ) -> Result<(), Fail> {
-    for (i, step) in steps.iter().enumerate() {
-        take_step(rt, lent, design, rule, *step, heap).note(format_args!("step {i}"))?;
+    for step in steps {
+        take_step(rt, lent, design, rule, *step, heap)?;
     }
     Ok(())
 }

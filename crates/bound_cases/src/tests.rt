@@ -200,9 +200,9 @@ fn room_is_limited(rt: HostRuntime) -> Result<(), Fail> {
     let design = read(&rt, REGISTER)?;
     let mut lent = Lent::new(heap);
     lent.lend(400, 28 * 65, 28 * 257, 1080)?;
-    lent.make(&design)??;
+    lent.make(&rt, &design)??;
     for number in 0..64 {
-        assert_eq!(rt; lent.start(&design, 0)??, number);
+        assert_eq!(rt; lent.start(&rt, &design, 0)??, number);
     }
     let steps = &[
         Step::Start(0, "refused 17 3 0"),
@@ -334,7 +334,7 @@ fn walk_by<R: Rule>(
     follow(rt, lent, design, rule, steps, heap)?;
     let mut all: usize = 0;
     for _walk in 0..40 {
-        let (taken, ending) = lent.walk(design, rule, budget)?;
+        let (taken, ending) = lent.walk(rt, design, rule, budget)?;
         all = all.wrapping_add(taken);
         if ending == Ending::Done {
             return Ok(all);
@@ -399,10 +399,10 @@ fn lists<R: Rule>(
     let points = lent.exploration.point_count();
     let open = lent.exploration.open_count();
     assert_eq!(rt; taken, points);
-    let peak = u64::from(lent.peak(design)??);
+    let peak = u64::from(lent.peak(rt, design)??);
     let power = peak * u64::from(design.clock());
     let window = design.window();
-    let energy = lent.window(design, window)??;
+    let energy = lent.window(rt, design, window)??;
     let lines = listing(&lent, heap)?;
     let text = format!(in heap;
         "points {points} open {open} peak {peak} power {power} window {window} energy {energy}\n{lines}"

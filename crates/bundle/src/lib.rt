@@ -1,4 +1,6 @@
 // A bundle's bytes: header, contents rows and bodies.
+#![tactic(auto)]
+
 mod body;
 mod bundle;
 mod header;

@@ -94,7 +94,7 @@ fn toggling_tag_opens(rt: HostRuntime) -> Result<(), Fail> {
         _ => unreachable(),
     }
     match bundle.body(5) {
-        Some(Body::Pilots(pilots)) => assert!(rt; pilots == &[4, 0, 2, 0, 3, 0]),
+        Some(Body::Pilots(pilots)) => assert!(rt; pilots == [4, 0, 2, 0, 3, 0].as_slice()),
         _ => unreachable(),
     }
     assert!(rt; bundle.body(7).is_none());
@@ -157,7 +157,7 @@ fn eighth_body_is_skipped(rt: HostRuntime) -> Result<(), Fail> {
     let bundle = Bundle::open(&bytes)?;
     match bundle.body(7) {
         Some(Body::Skipped(stretch)) => {
-            assert!(rt; stretch == &[7, 0, 0]);
+            assert!(rt; stretch == [7, 0, 0].as_slice());
             Ok(())
         },
         _ => Err(Fail::new("the eighth body is not skipped")),

@@ -1,4 +1,6 @@
 // A bundle, decoded and checked once into the tables of a design.
+#![tactic(auto)]
+
 mod bodies;
 mod cells;
 mod decode;

@@ -1,4 +1,6 @@
 // A tag's core in typed tables, sound by its type.
+#![tactic(auto)]
+
 mod design;
 mod tables;
 mod views;

@@ -1,4 +1,6 @@
 // The one engine: start states, the edge, settling and the charge, written once for every kind of level.
+#![tactic(auto)]
+
 mod cycles;
 mod edges;
 mod energy;

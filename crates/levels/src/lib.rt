@@ -1,4 +1,6 @@
 // What a net may carry, and the one trait that every kind of level shares.
+#![tactic(auto)]
+
 ghost use Rattle.std.specs.Prelude.{◌≡◌, ℕ, ◌<◌, ◌≤◌, Bool, true, false, List, [], ◌∷◌};
 ghost use Rattle.levels.specs.Kinds.{Kind, Lawful, Carries, Pads, bit_at, choice};
 ghost use Rattle.levels.specs.Bits.{bit_kind, bit_is, bit_of};

@@ -1,11 +1,10 @@
 -- What a sound core's parts are. Assumes nothing.
-use Rattle.std.proofs.Common.{◌≡◌, ℕ, zero, suc, ◌+◌, ◌*◌, ◌/◌, ◌%◌, ◌^◌, ◌<◌, ◌≤◌, Bool, true, false, ◌&&◌, eqb, ltb, leb, List, [], ◌∷◌, map, length, get_or, take, sym, refl, ap, ◌∙◌, subst, arith, ltb-true, leb-true}
+use Rattle.std.proofs.Common.{◌≡◌, ℕ, zero, suc, ◌+◌, ◌*◌, ◌/◌, ◌%◌, ◌^◌, ◌<◌, ◌≤◌, Bool, true, ◌&&◌, eqb, ltb, leb, List, [], ◌∷◌, length, get_or, take, sym, ap, ◌∙◌, subst, arith, ltb-true, leb-true}
 use Rattle.std.specs.List.{range_with_len}
 use Rattle.std.proofs.lemmas.List.FromFn.{length-range_with_len, get_or-range_with_len}
 use Rattle.std.proofs.lemmas.Bool.{and_parts, eqb-true}
 use Rattle.levels.specs.declared.Tri.TheVariants.{X}
 use Rattle.model.specs.declared.net.Gate.{Gate}
-use Rattle.model.specs.declared.net.Driver.{Driver}
 use Rattle.model.specs.declared.net.Driver.TheVariants as driver
 use Rattle.model.specs.Core.{Core, driver_at, every, all_below, distinct, is_flop, flops, pin_sound, net_sound, nets_sound, memories_sound, wires_sound, pilots_sound, starts_sound, sound, known, flops_below}
 

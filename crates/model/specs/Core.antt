@@ -1,9 +1,8 @@
 -- A tag's core, and when it is sound. Assumes nothing.
-use Rattle.std.specs.Prelude.{ℕ, ◌+◌, ◌*◌, ◌/◌, ◌%◌, ◌^◌, Bool, true, false, cond, not, ◌&&◌, ◌||◌, ltb, List, [], ◌∷◌, map, length, get_or, take, ◌==◌, nat_le, nat_lt, slice_index_or}
+use Rattle.std.specs.Prelude.{ℕ, ◌+◌, ◌*◌, ◌/◌, ◌%◌, ◌^◌, Bool, true, false, cond, not, ◌&&◌, ◌||◌, ltb, List, [], ◌∷◌, length, get_or, take, ◌==◌, nat_le, nat_lt, slice_index_or}
 use Rattle.std.specs.List.{range_with_len}
 use Rattle.levels.specs.declared.Tri.{Tri}
 use Rattle.levels.specs.declared.Tri.TheVariants.{Zero, One, X}
-use Rattle.model.specs.declared.net.Gate.{Gate}
 use Rattle.model.specs.declared.net.Driver.{Driver}
 use Rattle.model.specs.declared.net.Driver.TheVariants as driver
 use Rattle.model.specs.declared.net.Net.{Net}

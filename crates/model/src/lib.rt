@@ -1,4 +1,6 @@
 // A tag's core: what its nets are, and what one cycle of it means.
+#![tactic(auto)]
+
 mod laws;
 mod net;
 

@@ -1,5 +1,5 @@
 -- A run in bits over lines of inputs. Assumes nothing.
-use Rattle.std.specs.Prelude.{◌≡◌, ℕ, zero, suc, ◌+◌, ◌*◌, Bool, true, false, cond, ◌&&◌, List, [], ◌∷◌, ◌++◌, map, length, drop, Some, None, Option, Result, MatchResult, ◌==◌, nat_le}
+use Rattle.std.specs.Prelude.{◌≡◌, ℕ, zero, suc, ◌+◌, ◌*◌, Bool, cond, ◌&&◌, List, [], ◌∷◌, ◌++◌, map, length, drop, Some, None, Option, Result, MatchResult, ◌==◌, nat_le}
 use Rattle.levels.specs.declared.Bit.{Bit}
 use Rattle.levels.specs.Bits.{bit_kind}
 use Rattle.bundle.specs.declared.refusal.Refusal.{Refusal}

@@ -1,4 +1,6 @@
 // A run in bits, cycle by cycle, over lines of inputs.
+#![tactic(auto)]
+
 mod lines;
 mod program;
 mod run;

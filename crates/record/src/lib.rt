@@ -1,4 +1,6 @@
 // What an exploration records, and what no run of the tag escapes.
+#![tactic(auto)]
+
 mod laws;
 mod point;
 mod text;

@@ -1,5 +1,5 @@
 -- The tests on levels and states tell what they are named for. Assumes nothing.
-use Rattle.std.specs.Prelude.{◌≡◌, suc, Bool, true, false, cond, not, ◌||◌, ◌⊎◌, List, [], ◌∷◌, length, Decides, ◌≢◌, refl}
+use Rattle.std.specs.Prelude.{◌≡◌, suc, Bool, true, false, cond, not, ◌||◌, List, [], ◌∷◌, length, Decides, ◌≢◌, refl}
 use Rattle.std.proofs.Common.{sym, ap, ap₂, ◌∙◌, ⊎_elim}
 use Rattle.std.proofs.lemmas.Bool.{and_parts, and_from, or_cases, or_left, or_right}
 use Rattle.levels.specs.declared.Tri.{Tri}

@@ -1,4 +1,6 @@
 // Merge rules: whether a point is looked up among the kept states, and which state covers both the kept and the new one.
+#![tactic(auto)]
+
 mod eager;
 mod laws;
 mod plain;

@@ -1,4 +1,6 @@
 // The successors of a state: the keys that its pilots may show after the edge, and the state and charge of each.
+#![tactic(auto)]
+
 mod covering;
 mod pilots;
 mod restoring;

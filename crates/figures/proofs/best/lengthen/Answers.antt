@@ -3,7 +3,7 @@ use Rattle.std.proofs.lemmas.List.{get_or-replicate}
 use Rattle.record.specs.Bounds.{best_among}
 use Rattle.figures.proofs.Rows.{Counted, counted_start, counted_from}
 use Rattle.figures.proofs.best.lengthen.Goals as goal
-use Rattle.figures.proofs.best.lengthen.Goals.{in-From, in-default}
+use Rattle.figures.proofs.best.lengthen.Goals.{in-From, in_default}
 
 pub loop-q-init : goal.loop-q-init
 loop-q-init c w best t l =
@@ -21,7 +21,7 @@ loop-q-preserved c w best =
           (counted_from ps c.requires.named w c.args.best.now best q v.in-From.from v.drawn.result v.max.result longer
           c.loop-q-test.true (omega arith) v.in-From.is v.drawn.ensures.value v.drawn.ensures.bound v.max.ensures
           (c.loop-q.invariant w best))
-      | in-default v ↦ subst (Counted ps w (q + 1)) (sym v.longer-is) (counted_start ps w q longer v.in-default.not-From (c.loop-q.invariant w best))
+      | in_default v ↦ subst (Counted ps w (q + 1)) (sym v.longer-is) (counted_start ps w q longer v.in_default.not-From (c.loop-q.invariant w best))
     ]
 
 pub returns : goal.returns

@@ -1,4 +1,4 @@
-use Rattle.std.proofs.Common.{◌≡◌, ℕ, ◌+◌, ◌-◌, ◌*◌, ◌<◌, ◌≤◌, length, sym, ap, ◌∙◌, arith}
+use Rattle.std.proofs.Common.{◌≡◌, ◌+◌, ◌-◌, ◌*◌, ◌≤◌, length, sym, ap, ◌∙◌, arith}
 use Rattle.bundle.specs.declared.refusal.Fault.TheVariants as fault
 use Rattle.bundle.specs.Format.{ask_each}
 use Rattle.bundle.proofs.Asked.{asked_more, asked_bad}

@@ -1,5 +1,5 @@
 use Rattle.std.proofs.Common.{true, false, ap, arith}
-use Rattle.model.specs.Core.{tally, is_input}
+use Rattle.model.specs.Core.{is_input}
 use Rattle.model.proofs.Tallies.{tally_more, tally_all, no_input_from}
 use Rattle.player.proofs.run.count_inputs.Goals as goal
 use Rattle.player.proofs.run.count_inputs.Goals.{in-Input, in_default}

@@ -1,8 +1,8 @@
-use Rattle.std.proofs.Common.{◌≡◌, ℕ, ◌+◌, ◌*◌, ◌≤◌, List, map, length, sym, ap, ◌∙◌, ap₂, arith, rules}
+use Rattle.std.proofs.Common.{◌≡◌, ℕ, ◌≤◌, List, length, ap, ◌∙◌, ap₂, arith, rules}
 use Rattle.levels.specs.declared.Bit.{Bit}
 use Rattle.levels.specs.Bits.{bit_kind}
-use Rattle.model.specs.Core.{is_input, places, memories_sound}
-use Rattle.model.specs.Cycle.{given_by, cycled}
+use Rattle.model.specs.Core.{is_input, places}
+use Rattle.model.specs.Cycle.{given_by}
 use Rattle.model.specs.Tag.{tag_cycle, tag_energy, IsTheTag}
 use Rattle.model.proofs.Sound.{memories_from_sound}
 use Rattle.model.proofs.Tag.{bits_are_the_tag}

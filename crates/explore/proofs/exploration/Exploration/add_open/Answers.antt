@@ -3,8 +3,8 @@ use Rattle.explore.proofs.Views.{numbers_push}
 use Rattle.explore.proofs.Facts.{replaced_kept}
 use Rattle.explore.proofs.exploration.Exploration.add_open.Goals as goal
 
-pub invariant-of-self : goal.invariant-of-self
-invariant-of-self c =
+pub invariant_of-self : goal.invariant_of-self
+invariant_of-self c =
     let x = c.args.self.now in (
       x.some_places,
       (

@@ -4,8 +4,8 @@ use Rattle.explore.proofs.Views.{numbers_kept}
 use Rattle.explore.proofs.Facts.{replaced_kept}
 use Rattle.explore.proofs.exploration.Exploration.close.Goals as goal
 
-pub invariant-of-self : goal.invariant-of-self
-invariant-of-self c =
+pub invariant_of-self : goal.invariant_of-self
+invariant_of-self c =
     let x = c.args.self.now in
     let n = x.open_count - 1 in
     let inside = mul-le n x.places x.open_count x.places (omega arith) (omega arith) in (

@@ -7,24 +7,24 @@ use Rattle.explore.proofs.Escaping.{no_run_escapes_the_record}
 use Rattle.explore.proofs.FigureLemmas.{peak_allowed}
 use Rattle.explore.proofs.exploration.Exploration.figures.Goals as goal
 
-pub returns-in-err-window : goal.returns-in-err-window
-returns-in-err-window c =
+pub returns-in_err-window : goal.returns-in_err-window
+returns-in_err-window c =
     let before = memory_of c.args.self.now c.args.points.now c.args.opened.now c.args.kept.now c.args.scratch.now in
-    let exit = err_from_is_err_and c.from-residual.result c.from-residual.ensures.1 in
+    let exit = err_from_is_err_and c.from_residual.result c.from_residual.ensures.1 in
     record {
-      figured = rw (exit.1, exit.2) c.in-err-window.ensures;
+      figured = rw (exit.1, exit.2) c.in_err-window.ensures;
       no_run_escapes = no_run_escapes_the_record (core c.args.design.now) c.args.design.now.sound before;
     }
 
 pub used-requires : goal.used-requires
 used-requires c =
     let before = memory_of c.args.self.now c.args.points.now c.args.opened.now c.args.kept.now c.args.scratch.now in
-    (peak_allowed (core c.args.design.now) before (length c.args.row.now) (length c.args.other.now) c.args.width c.in-ok-window.ensures.3.0).1
+    (peak_allowed (core c.args.design.now) before (length c.args.row.now) (length c.args.other.now) c.args.width c.in_ok-window.ensures.3.0).1
 
 pub returns : goal.returns
 returns c =
     let before = memory_of c.args.self.now c.args.points.now c.args.opened.now c.args.kept.now c.args.scratch.now in
-    let windows = c.in-ok-window.ensures in
+    let windows = c.in_ok-window.ensures in
     let allowed = peak_allowed (core c.args.design.now) before (length c.args.row.now) (length c.args.other.now) c.args.width windows.3.0 in
     record {
       figured = ((windows.0, (allowed.0, c.peak.ensures ∙ ap peak c.used.ensures)), windows);

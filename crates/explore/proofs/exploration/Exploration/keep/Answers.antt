@@ -5,8 +5,8 @@ use Rattle.explore.proofs.Entries.{kept_add, kept_replace, replaced_inside}
 use Rattle.explore.proofs.Facts.{replaced_set, entered_none}
 use Rattle.explore.proofs.exploration.Exploration.keep.Goals as goal
 
-pub invariant-of-self : goal.invariant-of-self
-invariant-of-self c =
+pub invariant_of-self : goal.invariant_of-self
+invariant_of-self c =
     let x = c.args.self.now in
     let n = x.entry_count in
     let after : entries_after c.args.plan n ≡ n + 1 = ap (λ (q : Plan). entries_after q n) c.in-Add.is in
@@ -45,14 +45,14 @@ invariant-of-self c =
       ),
     )
 
-pub keep-state-requires-in-Replace : goal.keep-state-requires-in-Replace
-keep-state-requires-in-Replace c =
+pub keep_state-requires-in-Replace : goal.keep_state-requires-in-Replace
+keep_state-requires-in-Replace c =
     let x = c.args.self.now in
     let inside = replaced_inside c.args.plan c.in-Replace.entry c.in-Replace.count x.entry_count x.places x.kept_length c.in-Replace.is c.requires.used c.requires.inside in
     omega (arith, ap (λ (m : ℕ). c.in-Replace.entry * m) c.requires.state, c.requires.state, c.requires.kept, inside.2)
 
-pub invariant-of-self-in-Replace : goal.invariant-of-self-in-Replace
-invariant-of-self-in-Replace c =
+pub invariant_of-self-in-Replace : goal.invariant_of-self-in-Replace
+invariant_of-self-in-Replace c =
     let x = c.args.self.now in
     let n = x.entry_count in
     let i = c.in-Replace.entry in
@@ -105,8 +105,8 @@ returns-in-Add c d =
       same_open = refl;
       same_numbers = refl;
       more_entries = sym after;
-      written = kept_add d c.args.key c.args.point c.args.state.now x.places c.requires.state x.entries c.args.kept.now n c.args.plan c.keep-state.new.kept
-          c.in-Add.is room (omega (arith, ap (λ (m : ℕ). m * x.places) after, c.requires.inside, c.requires.kept)) c.keep-state.ensures;
+      written = kept_add d c.args.key c.args.point c.args.state.now x.places c.requires.state x.entries c.args.kept.now n c.args.plan c.keep_state.new.kept
+          c.in-Add.is room (omega (arith, ap (λ (m : ℕ). m * x.places) after, c.requires.inside, c.requires.kept)) c.keep_state.ensures;
     }
 
 pub returns-in-Replace : goal.returns-in-Replace
@@ -123,9 +123,9 @@ returns-in-Replace c d =
       same_numbers = refl;
       more_entries = sym (ap (λ (q : Plan). entries_after q n) c.in-Replace.is);
       written = kept_replace d c.args.key c.args.point c.args.state.now x.places c.requires.state x.entries c.args.kept.now n c.args.plan i c.in-Replace.count
-          c.keep-state-in-Replace.new.kept c.in-Replace.is inside.0 room (omega (arith, c.requires.kept, inside.1)) c.keep-state-in-Replace.ensures;
+          c.keep_state-in-Replace.new.kept c.in-Replace.is inside.0 room (omega (arith, c.requires.kept, inside.1)) c.keep_state-in-Replace.ensures;
     }
 
-pub returns-in-default : goal.returns-in-default
-returns-in-default c d =
-    entered_none d c.args.plan c.args.key c.args.point c.args.state.now c.args.self.now c.args.kept.now c.in-default.not-Add c.in-default.not-Replace
+pub returns-in_default : goal.returns-in_default
+returns-in_default c d =
+    entered_none d c.args.plan c.args.key c.args.point c.args.state.now c.args.self.now c.args.kept.now c.in_default.not-Add c.in_default.not-Replace

@@ -21,8 +21,8 @@ returns-then-watch g c =
     record {
       treats = λ r p kept same.
           add_treats d (g.R.Rule.meaning c.args.rule.now) c.args.current.now r p c.args.key same
-          (kept_entries x.places x.entries c.args.kept.now x.entry_count) kept even c.is-marked-marked.result c.is-marked-marked.ensures
-          (sym (c.in-default.ensures d c.args.kept.now)) c.if-watch.ensures;
+          (kept_entries x.places x.entries c.args.kept.now x.entry_count) kept even c.is_marked-marked.result c.is_marked-marked.ensures
+          (sym (c.in_default.ensures d c.args.kept.now)) c.if-watch.ensures;
       within = tt;
     }
 
@@ -34,13 +34,13 @@ returns-else-watch g c =
     record {
       treats = λ r p kept same.
           pass_new_treats d (g.R.Rule.meaning c.args.rule.now) c.args.current.now r p c.args.key same
-          (kept_entries x.places x.entries c.args.kept.now x.entry_count) kept even c.is-marked-marked.result c.is-marked-marked.ensures
-          (sym (c.in-default.ensures d c.args.kept.now)) c.if-watch.ensures;
+          (kept_entries x.places x.entries c.args.kept.now x.entry_count) kept even c.is_marked-marked.result c.is_marked-marked.ensures
+          (sym (c.in_default.ensures d c.args.kept.now)) c.if-watch.ensures;
       within = tt;
     }
 
-pub plan-known-requires : goal.plan-known-requires
-plan-known-requires g c =
+pub plan_known-requires : goal.plan_known-requires
+plan_known-requires g c =
     let x = c.args.self.now in
     let d = core c.args.design.now in
     record {
@@ -56,6 +56,6 @@ returns g c =
     let d = core c.args.design.now in
     let even : c.args.key % 2 ≡ 0 = omega (arith, c.if-key-eq1.false) in
     record {
-      treats = c.plan-known.ensures.treats even c.is-marked-marked.ensures (sym (c.in-Some.ensures d c.args.kept.now));
-      within = c.plan-known.ensures.within;
+      treats = c.plan_known.ensures.treats even c.is_marked-marked.ensures (sym (c.in-Some.ensures d c.args.kept.now));
+      within = c.plan_known.ensures.within;
     }

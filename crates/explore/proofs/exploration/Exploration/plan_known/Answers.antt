@@ -22,8 +22,8 @@ returns-then-not-watch g c =
       within = tt;
     }
 
-pub slice-bounds-state-end : goal.slice-bounds-state-end
-slice-bounds-state-end g c =
+pub slice_bounds-state-end : goal.slice_bounds-state-end
+slice_bounds-state-end g c =
     let x = c.args.self.now in
     let inside : c.args.entry * x.places + x.places ≤ length c.args.kept.now =
     omega (arith, stretch_inside c.args.entry x.places x.entry_count x.kept_length c.requires.entry x.entries_inside) in
@@ -44,8 +44,8 @@ returns-then-covers g c =
       within = tt;
     }
 
-pub overflow-add-result : goal.overflow-add-result
-overflow-add-result g c = let few = few_replaced_at c.args.self.now c.args.entry c.requires.entry in omega arith
+pub overflow_add-result : goal.overflow_add-result
+overflow_add-result g c = let few = few_replaced_at c.args.self.now c.args.entry c.requires.entry in omega arith
 
 pub returns : goal.returns
 returns g c =

@@ -11,8 +11,8 @@ loop-choice-init c =
     let x = c.args.self.now in
     (adds_none x, pushed_none x.places c.args.points.now c.args.opened.now x.numbers x.point_count x.open_count)
 
-pub push-successor-requires : goal.push-successor-requires
-push-successor-requires c =
+pub push_successor-requires : goal.push_successor-requires
+push_successor-requires c =
     let x = c.args.self.now in
     let y = c.loop-choice.self in
     let adds = c.loop-choice.invariant.0 in
@@ -42,11 +42,11 @@ loop-choice-preserved c =
     let y = c.loop-choice.self in
     let d = core c.args.design.now in
     let adds = c.loop-choice.invariant.0 in (
-      adds_one x y c.push-successor.new.self c.loop-choice.choice adds c.push-successor.ensures.adds,
+      adds_one x y c.push_successor.new.self c.loop-choice.choice adds c.push_successor.ensures.adds,
       pushed_next x.places d c.args.current.now c.args.from c.args.points.now c.loop-choice.points c.args.opened.now c.loop-choice.opened
-          x.numbers y.numbers x.point_count x.open_count c.push-successor.new.points c.push-successor.new.opened
-          c.push-successor.new.self.numbers c.loop-choice.choice y.places y.point_count y.open_count (omega (arith, c.requires.count))
-          adds.lengths.same_places adds.more_points adds.more_open c.loop-choice.invariant.1 c.push-successor.ensures.pushed,
+          x.numbers y.numbers x.point_count x.open_count c.push_successor.new.points c.push_successor.new.opened
+          c.push_successor.new.self.numbers c.loop-choice.choice y.places y.point_count y.open_count (omega (arith, c.requires.count))
+          adds.lengths.same_places adds.more_points adds.more_open c.loop-choice.invariant.1 c.push_successor.ensures.pushed,
     )
 
 pub returns : goal.returns

@@ -5,39 +5,39 @@ use Rattle.model.specs.Core.{places}
 use Rattle.explore.proofs.Views.{length_put}
 use Rattle.explore.proofs.StartLemmas.{StartRoom, start_room, started_view, start_record}
 use Rattle.explore.proofs.exploration.Exploration.start.Goals as goal
-use Rattle.explore.proofs.exploration.Exploration.start.Goals.{In-ok-allowed}
+use Rattle.explore.proofs.exploration.Exploration.start.Goals.{In_ok-allowed}
 
 -- what the questions left
-room : (c : In-ok-allowed) → StartRoom (core c.args.design.now) c.args.number c.args.self.now c.args.points.now c.args.opened.now c.args.kept.now c.args.scratch.now
-room c = start_room (core c.args.design.now) c.args.number c.args.self.now c.args.points.now c.args.opened.now c.args.kept.now c.args.scratch.now (sym c.in-ok-allowed.ensures)
+room : (c : In_ok-allowed) → StartRoom (core c.args.design.now) c.args.number c.args.self.now c.args.points.now c.args.opened.now c.args.kept.now c.args.scratch.now
+room c = start_room (core c.args.design.now) c.args.number c.args.self.now c.args.points.now c.args.opened.now c.args.kept.now c.args.scratch.now (sym c.in_ok-allowed.ensures)
 
-pub overflow-add-first : goal.overflow-add-first
-overflow-add-first c =
+pub overflow_add-first : goal.overflow_add-first
+overflow_add-first c =
     let h = (room c).stretch_lent in
     search rules
 
-pub slice-bounds-write-start-end : goal.slice-bounds-write-start-end
-slice-bounds-write-start-end c =
+pub slice_bounds-write_start-end : goal.slice_bounds-write_start-end
+slice_bounds-write_start-end c =
     let h = (room c).stretch_lent in
     search rules
 
-pub returns-in-err-key : goal.returns-in-err-key
-returns-in-err-key c =
+pub returns-in_err-key : goal.returns-in_err-key
+returns-in_err-key c =
     let x = c.args.self.now in
     let a = x.open_count * x.places in
     let d = core c.args.design.now in
     let opened = c.args.opened.now in
-    let r = room (goal.at.returns-in-err-key c).In-ok-allowed in
+    let r = room (goal.at.returns-in_err-key c).In_ok-allowed in
     let long : length (take (a + x.places - a) (drop a opened)) ≡ places d =
     length-take-le (a + x.places - a) (drop a opened) (omega (arith, length-drop a opened, r.stretch_lent)) ∙ omega (arith, r.places_fit) in
-    absurd (c.in-err-key.ensures long r.some_start)
+    absurd (c.in_err-key.ensures long r.some_start)
 
 pub bounds-points-point : goal.bounds-points-point
-bounds-points-point c = (room (goal.at.bounds-points-point c).In-ok-allowed).point_lent
+bounds-points-point c = (room (goal.at.bounds-points-point c).In_ok-allowed).point_lent
 
-pub add-open-requires : goal.add-open-requires
-add-open-requires c =
-    let r = room (goal.at.add-open-requires c).In-ok-allowed in
+pub add_open-requires : goal.add_open-requires
+add_open-requires c =
+    let r = room (goal.at.add_open-requires c).In_ok-allowed in
     record { few_points = r.few_points; point_inside = r.point_inside; few_open = r.few_open; open_inside = r.open_inside }
 
 pub returns : goal.returns
@@ -47,22 +47,22 @@ returns c =
     let d = core c.args.design.now in
     let points = c.args.points.now in
     let opened = c.args.opened.now in
-    let state = c.write-start.new.state in
-    let key = c.in-ok-key.key in
-    let adds = c.add-open.ensures.adds in
-    let none = sym c.in-ok-allowed.ensures in
-    let r = room (goal.at.returns c).In-ok-allowed in
+    let state = c.write_start.new.state in
+    let key = c.in_ok-key.key in
+    let adds = c.add_open.ensures.adds in
+    let none = sym c.in_ok-allowed.ensures in
+    let r = room (goal.at.returns c).In_ok-allowed in
     let whole : a + x.places - a ≡ x.places = omega arith in
     let slot : x.open_count < length x.numbers = let h = r.few_open in search rules in
     let long : length state ≡ x.places =
-    c.write-start.auto.state ∙ (length-take-le (a + x.places - a) (drop a opened) (omega (arith, length-drop a opened, r.stretch_lent)) ∙ whole) in (
+    c.write_start.auto.state ∙ (length-take-le (a + x.places - a) (drop a opened) (omega (arith, length-drop a opened, r.stretch_lent)) ∙ whole) in (
       none,
       refl,
-      started_view d c.args.number x c.add-open.new.self points opened c.args.kept.now c.args.scratch.now c.fill.new.self state key a (a + x.places - a)
-          adds c.add-open.ensures.number r.point_lent slot refl whole long (omega (arith, r.stretch_lent)) c.in-ok-key.ensures.1 c.in-ok-key.ensures.0,
+      started_view d c.args.number x c.add_open.new.self points opened c.args.kept.now c.args.scratch.now c.fill.new.self state key a (a + x.places - a)
+          adds c.add_open.ensures.number r.point_lent slot refl whole long (omega (arith, r.stretch_lent)) c.in_ok-key.ensures.1 c.in_ok-key.ensures.0,
       record {
         lengths = adds.lengths;
-        other_points = drop-set-lt c.add-open.new.self.point_count points x.point_count (start_record key) (omega (arith, adds.more_points));
+        other_points = drop-set-lt c.add_open.new.self.point_count points x.point_count (start_record key) (omega (arith, adds.more_points));
         as_many_open = length_put x.places x.open_count a (a + x.places - a) opened state refl whole long r.stretch_lent;
         other_kept = refl;
         scratch_unknown = search rules;

@@ -5,15 +5,15 @@ use Rattle.explore.specs.Memory.{memory_of}
 use Rattle.explore.proofs.Moving.{walked_asked, walked_view, walked_holds}
 use Rattle.explore.proofs.exploration.Exploration.step.Goals as goal
 
-pub returns-in-err-ask-room : goal.returns-in-err-ask-room
-returns-in-err-ask-room c =
+pub returns-in_err-ask_room : goal.returns-in_err-ask_room
+returns-in_err-ask_room c =
     let x = c.args.self.now in
     let d = core c.args.design.now in
     let before = memory_of x c.args.points.now c.args.opened.now c.args.kept.now [] in
-    let exit = err_from_is_err_and c.from-residual-in-err-ask-room.result c.from-residual-in-err-ask-room.ensures.1 in
+    let exit = err_from_is_err_and c.from_residual-in_err-ask_room.result c.from_residual-in_err-ask_room.ensures.1 in
     rw (exit.1, exit.2) (
-      walked_asked d c.args.plan c.args.number c.args.key c.args.current.now c.in-ok-count.count before c.in-ok-count.ensures.cases.2 (omega arith)
-          ∙ sym c.in-err-ask-room.ensures,
+      walked_asked d c.args.plan c.args.number c.args.key c.args.current.now c.in_ok-count.count before c.in_ok-count.ensures.cases.2 (omega arith)
+          ∙ sym c.in_err-ask_room.ensures,
       refl,
     )
 
@@ -22,10 +22,10 @@ returns c =
     let x = c.args.self.now in
     let d = core c.args.design.now in
     let before = memory_of x c.args.points.now c.args.opened.now c.args.kept.now [] in
-    let after = memory_of c.walk-on.new.self c.walk-on.new.points c.walk-on.new.opened c.walk-on.new.kept [] in
-    let n = c.in-ok-count.count in
-    let size = c.in-ok-count.ensures.cases.2 in (
-      walked_asked d c.args.plan c.args.number c.args.key c.args.current.now n before size (omega arith) ∙ sym c.in-ok-ask-room.ensures,
-      walked_view d c.args.plan c.args.number c.args.key c.args.current.now n before size (omega arith) after c.requires.number c.walk-on.ensures,
-      walked_holds d c.args.plan c.args.number c.args.key c.args.current.now n before size (omega arith) after c.requires.number c.walk-on.ensures,
+    let after = memory_of c.walk_on.new.self c.walk_on.new.points c.walk_on.new.opened c.walk_on.new.kept [] in
+    let n = c.in_ok-count.count in
+    let size = c.in_ok-count.ensures.cases.2 in (
+      walked_asked d c.args.plan c.args.number c.args.key c.args.current.now n before size (omega arith) ∙ sym c.in_ok-ask_room.ensures,
+      walked_view d c.args.plan c.args.number c.args.key c.args.current.now n before size (omega arith) after c.requires.number c.walk_on.ensures,
+      walked_holds d c.args.plan c.args.number c.args.key c.args.current.now n before size (omega arith) after c.requires.number c.walk_on.ensures,
     )

@@ -16,8 +16,8 @@ bounds-points-number g c =
     let h : get_or x.numbers (x.open_count - 1) 0 < length c.args.points.now = omega arith in
     search rules
 
-pub slice-bounds-copy-from-slice-end : goal.slice-bounds-copy-from-slice-end
-slice-bounds-copy-from-slice-end g c =
+pub slice_bounds-copy_from_slice-end : goal.slice_bounds-copy_from_slice-end
+slice_bounds-copy_from_slice-end g c =
     let x = c.args.self.now in
     let inside = stretch_inside (x.open_count - 1) x.places x.open_count x.open_length (omega arith) x.open_inside in
     let h : (x.open_count - 1) * x.places + x.places ≤ length c.args.opened.now = omega arith in
@@ -60,11 +60,11 @@ returns-in-Halt g c =
     let used = number_used x slot (omega arith) in
     let before = memory_of x c.args.points.now c.args.opened.now c.args.kept.now [] in
     let after = memory_of c.close.new.self c.close.new.points c.args.opened.now c.args.kept.now [] in
-    let s = c.copy-from-slice.new.self in
+    let s = c.copy_from_slice.new.self in
     let left = c.plan-plan.new.current in
     let q = c.plan-plan.result in
     last_takes d m before after p _ s left q c.requires.some _ refl used refl
-    (c.copy-from-slice.ensures.after ∙ stretch_part slot x.places c.args.opened.now) c.plan-plan.ensures
+    (c.copy_from_slice.ensures.after ∙ stretch_part slot x.places c.args.opened.now) c.plan-plan.ensures
     (halted_steps d m before after p _ s left q c.requires.some tt c.in-Halt.is used c.close.ensures.marked refl refl c.close.ensures.popped)
 
 pub returns-in-Cut : goal.returns-in-Cut
@@ -77,15 +77,15 @@ returns-in-Cut g c =
     let used = number_used x slot (omega arith) in
     let before = memory_of x c.args.points.now c.args.opened.now c.args.kept.now [] in
     let after = memory_of c.close-in-Cut.new.self c.close-in-Cut.new.points c.args.opened.now c.args.kept.now [] in
-    let s = c.copy-from-slice.new.self in
+    let s = c.copy_from_slice.new.self in
     let left = c.plan-plan.new.current in
     let q = c.plan-plan.result in
     last_takes d m before after p _ s left q c.requires.some _ refl used refl
-    (c.copy-from-slice.ensures.after ∙ stretch_part slot x.places c.args.opened.now) c.plan-plan.ensures
+    (c.copy_from_slice.ensures.after ∙ stretch_part slot x.places c.args.opened.now) c.plan-plan.ensures
     (cut_steps d m before after p _ s left q c.requires.some tt c.in-Cut.to c.in-Cut.is used c.close-in-Cut.ensures.marked refl refl c.close-in-Cut.ensures.popped)
 
-pub returns-in-default : goal.returns-in-default
-returns-in-default g c =
+pub returns-in_default : goal.returns-in_default
+returns-in_default g c =
     let x = c.args.self.now in
     let d = core c.args.design.now in
     let m = g.R.Rule.meaning c.args.rule.now in
@@ -94,10 +94,10 @@ returns-in-default g c =
     let used = number_used x slot (omega arith) in
     let before = memory_of x c.args.points.now c.args.opened.now c.args.kept.now [] in
     let after = memory_of c.step.new.self c.step.new.points c.step.new.opened c.step.new.kept [] in
-    let s = c.copy-from-slice.new.self in
+    let s = c.copy_from_slice.new.self in
     let left = c.plan-plan.new.current in
     let q = c.plan-plan.result in
     last_takes d m before after p _ s left q c.requires.some c.step.result refl used refl
-    (c.copy-from-slice.ensures.after ∙ stretch_part slot x.places c.args.opened.now) c.plan-plan.ensures
+    (c.copy_from_slice.ensures.after ∙ stretch_part slot x.places c.args.opened.now) c.plan-plan.ensures
     (subst (λ (t : Treatment tri_kind d). Steps d p t before after c.step.result)
-    (walks_on d q _ p left (view before) c.in-default.not-Halt c.in-default.not-Cut) c.step.ensures)
+    (walks_on d q _ p left (view before) c.in_default.not-Halt c.in_default.not-Cut) c.step.ensures)

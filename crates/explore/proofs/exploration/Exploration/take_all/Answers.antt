@@ -42,7 +42,7 @@ loop-taken-preserved g c =
     let start = memory_of x c.args.points.now c.args.opened.now c.args.kept.now [] in
     let here = memory_of c.loop-taken.self c.loop-taken.points c.loop-taken.opened c.loop-taken.kept [] in
     let after = memory_of c.take.new.self c.take.new.points c.take.new.opened c.take.new.kept [] in
-    let last = c.in-default.ensures in (
+    let last = c.in_default.ensures in (
       continues_more (core c.args.design.now) (g.R.Rule.meaning c.args.rule.now) x c.args.budget c.loop-taken.taken (view start) here after
           c.loop-taken.invariant.1.lengths c.loop-taken.invariant.0 tt c.loop-taken-test.true last,
       holds_more start here after c.loop-taken.invariant.1 last.steps.2,

@@ -24,8 +24,8 @@ keep-requires c =
       kept = c.requires.kept ∙ sym same.same_kept_length;
     }
 
-pub push-successors-requires : goal.push-successors-requires
-push-successors-requires c =
+pub push_successors-requires : goal.push_successors-requires
+push_successors-requires c =
     let x = c.args.self.now in
     let y = c.close.new.self in
     let z = c.keep.new.self in
@@ -54,5 +54,5 @@ pub returns : goal.returns
 returns c =
     let d = core c.args.design.now in
     walked_record d c.args.plan c.args.number c.args.key c.args.current.now c.args.count c.args.self.now c.close.new.self c.keep.new.self
-    c.push-successors.new.self c.args.points.now c.close.new.points c.push-successors.new.points c.args.opened.now c.push-successors.new.opened
-    c.args.kept.now c.keep.new.kept c.close.ensures.marked c.close.ensures.popped (c.keep.ensures d) c.push-successors.ensures.adds c.push-successors.ensures.pushed
+    c.push_successors.new.self c.args.points.now c.close.new.points c.push_successors.new.points c.args.opened.now c.push_successors.new.opened
+    c.args.kept.now c.keep.new.kept c.close.ensures.marked c.close.ensures.popped (c.keep.ensures d) c.push_successors.ensures.adds c.push_successors.ensures.pushed

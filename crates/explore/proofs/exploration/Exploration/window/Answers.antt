@@ -10,8 +10,8 @@ used-requires c =
     let row = length c.args.row.now in
     let other = length c.args.other.now in
     window_held (core c.args.design.now) (memory_of x c.args.points.now c.args.opened.now c.args.kept.now c.args.scratch.now) row other c.args.width
-    c.rows-fit-fits.result (c.rows-fit-fits.ensures ∙ ap (λ (b : Bool). b && leb x.point_count row && leb x.point_count other) c.fits-fits.ensures)
-    c.in-default.ensures
+    c.rows_fit-fits.result (c.rows_fit-fits.ensures ∙ ap (λ (b : Bool). b && leb x.point_count row && leb x.point_count other) c.fits-fits.ensures)
+    c.in_default.ensures
 
 pub returns : goal.returns
 returns c =
@@ -19,9 +19,9 @@ returns c =
     let row = length c.args.row.now in
     let other = length c.args.other.now in (
       ap (memory_of x c.args.points.now c.args.opened.now c.args.kept.now) (c.fill.ensures.after (λ y e. e)),
-      c.window.ensures.row-cleared,
-      c.window.ensures.other-cleared,
+      c.window.ensures.row_cleared,
+      c.window.ensures.other_cleared,
       window_cases (core c.args.design.now) (memory_of x c.args.points.now c.args.opened.now c.args.kept.now c.args.scratch.now) row other c.args.width
-          c.rows-fit-fits.result (c.rows-fit-fits.ensures ∙ ap (λ (b : Bool). b && leb x.point_count row && leb x.point_count other) c.fits-fits.ensures)
-          c.in-default.ensures c.used.result.now c.used.ensures c.window.result c.window.ensures.answer,
+          c.rows_fit-fits.result (c.rows_fit-fits.ensures ∙ ap (λ (b : Bool). b && leb x.point_count row && leb x.point_count other) c.fits-fits.ensures)
+          c.in_default.ensures c.used.result.now c.used.ensures c.window.result c.window.ensures.answer,
     )
