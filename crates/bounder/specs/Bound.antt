@@ -1,6 +1,6 @@
 -- A tag explored from all of its starts, and what its runs then draw. Assumes nothing.
 use Rattle.std.specs.Prelude.{◌≡◌, ℕ, suc, ◌*◌, ◌<◌, ◌≤◌, List, ◌∷◌, take, drop, Ok, Err, sum, Result, MatchResult, ◌≢◌}
-use Rattle.std.specs.List.{AllByRecursion as All}
+use Rattle.std.specs.List.{AllByRecursion}
 use Rattle.levels.specs.Bits.{bit_kind}
 use Rattle.levels.specs.declared.Bit.{Bit}
 use Rattle.bundle.specs.declared.refusal.Refusal.{Refusal}
@@ -86,5 +86,5 @@ abbrev pub NoRunDrawsMore : Core → Head → Type 0
 NoRunDrawsMore d h =
     (n : ℕ) → n < start_count d →
     (c : List Bit) (rest : List (List Bit)) → RunsFrom d n c rest →
-    All (λ e. e ≤ h.peak) (draws bit_kind d (c ∷ rest))
+    AllByRecursion (λ e. e ≤ h.peak) (draws bit_kind d (c ∷ rest))
     × ((i k : ℕ) → k ≤ h.window → sum (take k (drop i (draws bit_kind d (c ∷ rest)))) ≤ h.energy)

@@ -1,6 +1,6 @@
 -- Questions put one after the other.
 use Rattle.std.proofs.Common.{◌≡◌, ℕ, ◌≤◌, Bool, true, false, ◌&&◌, leb, List, [], ◌∷◌, ◌++◌, Some, None, Err, Option, Result, refl, ap, ◌∙◌, arith}
-use Rattle.std.specs.List.{AllByRecursion as All}
+use Rattle.std.specs.List.{AllByRecursion}
 use Rattle.std.proofs.lemmas.Bool.{and_parts, leb-true}
 use Rattle.bundle.specs.declared.refusal.Fault.{Fault}
 use Rattle.bundle.specs.declared.refusal.Refusal.{Refusal}
@@ -14,7 +14,7 @@ Passed o = None ≡ o
 pub passed : (o : Option Refusal) (rest : List (Option Refusal)) → Passed o → first_refusal rest ≡ first_refusal (o ∷ rest)
 passed o rest e = ap (λ (x : Option Refusal). first_refusal (x ∷ rest)) e
 
-pub all_passed : (before rest : List (Option Refusal)) → All Passed before → first_refusal rest ≡ first_refusal (before ++ rest)
+pub all_passed : (before rest : List (Option Refusal)) → AllByRecursion Passed before → first_refusal rest ≡ first_refusal (before ++ rest)
 all_passed [] rest h = refl
 all_passed (o ∷ before) rest h = all_passed before rest h.1 ∙ passed o (before ++ rest) h.0
 
@@ -51,7 +51,7 @@ pub handed_on : {T : Type 0} (res : Result T Refusal) (y r : Refusal) (o : Optio
 handed_on res y r o e d h = ap refusal_in e ∙ (ap (λ (x : Refusal). Some x) d ∙ h)
 
 -- where none is refused, each question is answered yes
-pub each_passed : (os : List (Option Refusal)) → Passed (first_refusal os) → All Passed os
+pub each_passed : (os : List (Option Refusal)) → Passed (first_refusal os) → AllByRecursion Passed os
 each_passed [] e = tt
 each_passed (None ∷ os) e = (refl, each_passed os e)
 each_passed (Some r ∷ os) e = let z : ◌≡◌ {A = ℕ} 0 1 = cc in absurd (omega arith)

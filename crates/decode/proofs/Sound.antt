@@ -1,6 +1,6 @@
 -- A bundle that is not refused stands for a sound core.
 use Rattle.std.proofs.Common.{◌≡◌, ℕ, ◌+◌, ◌-◌, ◌*◌, ◌/◌, ◌%◌, ◌^◌, ◌<◌, ◌≤◌, Bool, true, false, cond, ◌&&◌, eqb, ltb, leb, List, map, length, get_or, take, drop, is_some, Some, None, Option, unwrap_or, sym, refl, ap, ◌∙◌, subst, arith}
-use Rattle.std.specs.List.{AllByRecursion as All}
+use Rattle.std.specs.List.{AllByRecursion}
 use Rattle.std.proofs.lemmas.List.{length-take-le, length-drop}
 use Rattle.std.proofs.lemmas.Bool.{and_parts, and_from, lt-ltb, ltb-true, le-leb, leb-true, eq-eqb, eqb-true}
 use Rattle.std.proofs.lemmas.Nat.{mul-add-lt, mod-mul-add, div-add-mod'}
@@ -39,7 +39,7 @@ pilot_known b h = go (eqb b 0) (eqb b 1) (eqb b 2) h
     go false false false h = h
 
 module _ (p : Parts) (taken : Passed (parts_refusal p)) where
-  asked : All Passed (questions p)
+  asked : AllByRecursion Passed (questions p)
   asked = each_passed (questions p) taken
 
   cells_read : (1 ≤ cell_count p.cells) × (cell_count p.cells ≤ 64) × Passed (first_unread (cell_read p.cells) fault.Cells (cell_count p.cells))

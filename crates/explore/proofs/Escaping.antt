@@ -1,6 +1,6 @@
 -- No run escapes the record, whatever calls were made. Assumes nothing.
 use Rattle.std.proofs.Common.{◌≡◌, ℕ, zero, suc, ◌<◌, ◌≤◌, true, ◌&&◌, eqb, ltb, leb, ◌⊎◌, List, [], ◌∷◌, map, reverse, length, get_or, take, drop, Some, None, Ok, Err, sum, Option, Result, sym, refl, ap, ◌∙◌, subst, inl, inr, ⊎_elim, arith, ltb-true, MatchResult}
-use Rattle.std.specs.List.{range_with_len, ContainsAt as Has, AllByRecursion as All}
+use Rattle.std.specs.List.{range_with_len, ContainsAt as Has, AllByRecursion}
 use Rattle.std.proofs.lemmas.List.{length-take-le, length-map, get_or-map}
 use Rattle.std.proofs.lemmas.Bool.{eqb-true}
 use Rattle.levels.specs.Bits.{bit_kind}
@@ -133,7 +133,7 @@ module _ (d : Core) (ok : sound d ≡ true) where
         let shut = peak_shut d m answered.1.0 in (
           subst (IsPeak (used_points m)) (sym answered.1.1) (peak_is (used_points m)),
           λ p n in_taken c rest run.
-              subst (λ (y : ℕ). All (λ e. e ≤ y) (draws bit_kind d (c ∷ rest))) (sym answered.1.1) (run_bounded m taken h shut p n in_taken c rest run).each,
+              subst (λ (y : ℕ). AllByRecursion (λ e. e ≤ y) (draws bit_kind d (c ∷ rest))) (sym answered.1.1) (run_bounded m taken h shut p n in_taken c rest run).each,
         );
     window_bounds = λ w row other after row_after other_After x answered.
         let shut = window_shut d m (length row) (length other) w answered.3.0 in (

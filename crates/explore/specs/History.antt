@@ -1,6 +1,6 @@
 -- Any list of calls on an exploration, and what then holds of every run. Assumes nothing.
 use Rattle.std.specs.Prelude.{◌≡◌, ℕ, ◌<◌, ◌≤◌, ◌⊎◌, List, [], ◌∷◌, length, take, drop, Ok, Err, sum, Result}
-use Rattle.std.specs.List.{ContainsAt as Has, AllByRecursion as All}
+use Rattle.std.specs.List.{ContainsAt as Has, AllByRecursion}
 use Rattle.levels.specs.Kinds.{Cover}
 use Rattle.levels.specs.Bits.{bit_kind}
 use Rattle.levels.specs.Tris.{tri_kind}
@@ -57,7 +57,7 @@ pub record HoldsEveryRun (d : Core) (m : Memory) (taken : List (ℕ × ℕ)) : T
   pub peak_bounds : (after : Memory) (x : ℕ) → Peaks d m after (Ok x) →
       IsPeak (used_points m) x
       × ((p n : ℕ) → Has taken (p, n) → (c : List Bit) (rest : List (List Bit)) → RunsFrom d n c rest →
-      All (λ e. e ≤ x) (draws bit_kind d (c ∷ rest)))
+      AllByRecursion (λ e. e ≤ x) (draws bit_kind d (c ∷ rest)))
   -- an answered window of w is the most that w steps of a recorded path or fewer draw, and no w successive cycles of any run, or
   -- fewer, draw more
   pub window_bounds : (w : ℕ) (row other : List ℕ) (after : Memory) (row_after other_After : List ℕ) (x : ℕ) →

@@ -1,7 +1,7 @@
 -- What the runs of a record without open points may draw. Assumes nothing.
 use Rattle.std.proofs.Common.{◌≡◌, ℕ, zero, suc, ◌+◌, ◌*◌, ◌<◌, ◌≤◌, max, Bool, true, false, cond, ◌⊎◌, List, [], ◌∷◌, ◌++◌, map, length, get_or, take, drop, sum, sym, refl, ap, ◌∙◌, subst, ap₂, inl, inr, ⊎_elim, zero-le, arith}
 use lib.Seq.{take-nil}
-use Rattle.std.specs.List.{range_with_len, AllByRecursion as All}
+use Rattle.std.specs.List.{range_with_len, AllByRecursion}
 use Rattle.std.proofs.lemmas.List.FromFn.{length-map-range_with_len, get_or-map-range_with_len, map-range_with_len_more}
 use Rattle.std.proofs.ByRecursion.{All-get_or, all-has}
 use Rattle.std.proofs.lemmas.List.{map_more}
@@ -225,7 +225,7 @@ module _ {B : Type 0} (j : Kind B) (d : Core) (ps : List Point) (shut : NoOpen p
   not_open : (p : ℕ) → p < length ps → (point_at ps p).fate ≡ fate.Open → ⊥
   not_open p l e = All-get_or (λ x. x.fate ≡ fate.Open → ⊥) ps p nowhere l shut e
 
-  each_drawn : (p : ℕ) (run : List (List B)) → Held j d ps p run → p < length ps → All (λ x. x ≤ peak ps) (draws j d run)
+  each_drawn : (p : ℕ) (run : List (List B)) → Held j d ps p run → p < length ps → AllByRecursion (λ x. x ≤ peak ps) (draws j d run)
   each_drawn p run (whole _ c key) l = tt
   each_drawn p run (early _ c rest key is_open) l = absurd (not_open p l is_open)
   each_drawn p run (onward _ t q c e rest key leaves leads bound on) l =

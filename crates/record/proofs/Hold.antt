@@ -1,7 +1,7 @@
 -- What a record's points hold, and that it lasts as the record grows. Assumes nothing.
 use Rattle.std.proofs.Common.{◌≡◌, ℕ, ◌+◌, ◌%◌, ◌<◌, ◌≤◌, ◌⊎◌, List, [], ◌∷◌, ◌++◌, length, get_or, set, sym, ap, ◌∙◌, subst, subst₂, ⊎_elim, arith, length-append, length-set, get_or-set_other, get_or-set_same, get_or-append-add}
 use lib.ListN.{get_or-append, get_or-eq_default}
-use Rattle.std.specs.List.{ContainsAt as Has, AllByRecursion as All}
+use Rattle.std.specs.List.{ContainsAt as Has, AllByRecursion}
 use Rattle.std.proofs.lemmas.Bool.{cases_lt}
 use Rattle.levels.specs.Kinds.{Kind, Cover}
 use Rattle.model.specs.Core.{Core}
@@ -78,8 +78,8 @@ module _ {V : Type 0} (k : Kind V) (d : Core) where
     pub done : (q : ℕ) → ((point_at ps q).fate ≡ fate.Open → ⊥) → Done ps σ q
     pub waits : Below ps σ (length ps) ws
     pub listed : (q : ℕ) → q < length ps → (point_at ps q).fate ≡ fate.Open → Listed q ws
-    pub entered : All (Entered ps σ) es
-    pub begun : All (Begun ps σ) taken
+    pub entered : AllByRecursion (Entered ps σ) es
+    pub begun : AllByRecursion (Begun ps σ) taken
 
   -- ---- a record that grows
 

@@ -1,7 +1,7 @@
 -- What the states of a record show: their key and the constants. Assumes nothing.
 use Rattle.std.proofs.Common.{◌≡◌, ℕ, zero, suc, ◌+◌, ◌*◌, ◌/◌, ◌%◌, ◌^◌, ◌<◌, ◌≤◌, Bool, true, false, cond, not, ◌||◌, eqb, List, [], ◌∷◌, ◌++◌, map, length, get_or, set, sym, refl, ap, ◌∙◌, subst, ap₂, pow-suc, arith, length-append, length-set, get_or-set_other, get_or-set_same}
 use lib.ListN.{get_or-append}
-use Rattle.std.specs.List.{range_with_len, ContainsAt as Has, AllByRecursion as All}
+use Rattle.std.specs.List.{range_with_len, ContainsAt as Has, AllByRecursion}
 use Rattle.std.proofs.lemmas.List.FromFn.{length-map-range_with_len, get_or-map-range_with_len}
 use Rattle.std.proofs.ByRecursion.{All-weaker, All-from_get_or}
 use Rattle.std.proofs.lemmas.Bool.{and_parts, or_left, or_right, not-true, both_ways, eq-eqb}
@@ -118,9 +118,9 @@ flop_loose u e b c = both_ways false refl (ap is_flop (sym c) ∙ e)
 
 abbrev Apart : List ℕ → Type 0
 Apart [] = Unit {0}
-Apart (x ∷ xs) = All (λ y. x ≡ y → ⊥) xs × Apart xs
+Apart (x ∷ xs) = AllByRecursion (λ y. x ≡ y → ⊥) xs × Apart xs
 
-not_among : (x : ℕ) (xs : List ℕ) → among x xs ≡ false → All (λ y. x ≡ y → ⊥) xs
+not_among : (x : ℕ) (xs : List ℕ) → among x xs ≡ false → AllByRecursion (λ y. x ≡ y → ⊥) xs
 not_among x [] e = tt
 not_among x (y ∷ ys) e = (
   (λ h. both_ways (eqb x y || among x ys) e (or_left (eqb x y) (among x ys) (eq-eqb x y h))),
@@ -137,7 +137,7 @@ apart_from (x ∷ xs) e =
     let h = and_parts (not (among x xs)) (distinct xs) e in
     (not_among x xs (not-true (among x xs) h.0), apart_from xs h.1)
 
-all_every : {A : Type 0} (f : A → Bool) (xs : List A) → every f xs ≡ true → All (λ x. f x ≡ true) xs
+all_every : {A : Type 0} (f : A → Bool) (xs : List A) → every f xs ≡ true → AllByRecursion (λ x. f x ≡ true) xs
 all_every f [] e = tt
 all_every f (x ∷ xs) e = let h = and_parts (f x) (every f xs) e in (h.0, all_every f xs h.1)
 
@@ -149,17 +149,17 @@ module _ {V : Type 0} (k : Kind V) where
   length_keyed (p ∷ ps) key s =
       length_keyed ps (key / 2) (set s p (k.of_bit (eqb (key % 2) 1))) ∙ length-set s p (k.of_bit (eqb (key % 2) 1))
 
-  keyed_keeps : (ps : List ℕ) (key : ℕ) (s : List V) (q : ℕ) → All (λ y. q ≡ y → ⊥) ps → at k (keyed k ps key s) q ≡ at k s q
+  keyed_keeps : (ps : List ℕ) (key : ℕ) (s : List V) (q : ℕ) → AllByRecursion (λ y. q ≡ y → ⊥) ps → at k (keyed k ps key s) q ≡ at k s q
   keyed_keeps [] key s q h = refl
   keyed_keeps (p ∷ ps) key s q h =
       keyed_keeps ps (key / 2) (set s p (k.of_bit (eqb (key % 2) 1))) q h.1
       ∙ get_or-set_other s p q (k.of_bit (eqb (key % 2) 1)) k.blank h.0
 
-  pinned_alike : (ps : List ℕ) (key : ℕ) (s t : List V) → All (λ p. at k t p ≡ at k s p) ps → Pinned k ps key s → Pinned k ps key t
+  pinned_alike : (ps : List ℕ) (key : ℕ) (s t : List V) → AllByRecursion (λ p. at k t p ≡ at k s p) ps → Pinned k ps key s → Pinned k ps key t
   pinned_alike [] key s t e h = tt
   pinned_alike (p ∷ ps) key s t e h = (e.0 ∙ h.0, pinned_alike ps (key / 2) s t e.1 h.1)
 
-  keyed_pinned : (ps : List ℕ) (key : ℕ) (s : List V) → Apart ps → All (λ p. p < length s) ps → Pinned k ps key (keyed k ps key s)
+  keyed_pinned : (ps : List ℕ) (key : ℕ) (s : List V) → Apart ps → AllByRecursion (λ p. p < length s) ps → Pinned k ps key (keyed k ps key s)
   keyed_pinned [] key s apart inside = tt
   keyed_pinned (p ∷ ps) key s apart inside =
       let v : V = k.of_bit (eqb (key % 2) 1) in (
@@ -260,7 +260,7 @@ module _ {V : Type 0} (k : Kind V) where
       parts : Parts d
       parts = sound_parts d ok
 
-      pilots_flops : All (λ p. (p < length d.nets) × (is_flop (driver_at d p) ≡ true)) d.pilots
+      pilots_flops : AllByRecursion (λ p. (p < length d.nets) × (is_flop (driver_at d p) ≡ true)) d.pilots
       pilots_flops = All-from_get_or (λ p. (p < length d.nets) × (is_flop (driver_at d p) ≡ true)) d.pilots 0 parts.pilot
 
       pilots_apart : Apart d.pilots
@@ -271,7 +271,7 @@ module _ {V : Type 0} (k : Kind V) where
           (and_parts (nets_sound d) (memories_sound d)
           (and_parts _ (wires_sound d) (and_parts _ (pilots_sound d) (and_parts _ (starts_sound d) ok).0).0).0).0
 
-      pilots_inside : (s : List V) → length s ≡ places d → All (λ p. p < length s) d.pilots
+      pilots_inside : (s : List V) → length s ≡ places d → AllByRecursion (λ p. p < length s) d.pilots
       pilots_inside s e =
           All-weaker (λ p. (p < length d.nets) × (is_flop (driver_at d p) ≡ true)) (λ p. p < length s)
           (λ p h. let l : p < length d.nets = h.0 in omega arith) d.pilots pilots_flops
@@ -282,7 +282,7 @@ module _ {V : Type 0} (k : Kind V) where
       settled_full : (s : List V) → length s ≡ places d → length (settled k d s) ≡ places d
       settled_full s e = (gates_settle k d nets_ok s (omega arith)).agrees.as_long ∙ e
 
-      pub still_pilots : (s : List V) → length s ≡ places d → All (λ p. at k (settled k d s) p ≡ at k s p) d.pilots
+      pub still_pilots : (s : List V) → length s ≡ places d → AllByRecursion (λ p. at k (settled k d s) p ≡ at k s p) d.pilots
       still_pilots s e =
           All-weaker (λ p. (p < length d.nets) × (is_flop (driver_at d p) ≡ true)) (λ p. at k (settled k d s) p ≡ at k s p)
           (λ p h. settled_keeps s e p (flop_plain (driver_at d p) h.1)) d.pilots pilots_flops
@@ -290,7 +290,7 @@ module _ {V : Type 0} (k : Kind V) where
       settled_constants : (s : List V) → length s ≡ places d → Constants s → Constants (settled k d s)
       settled_constants s e h m b l u = settled_keeps s e m (ap is_gate u) ∙ h m b l u
 
-      loose_pilots : (s : List V) → All (λ p. at k (with_constants k d 0 d.nets s) p ≡ at k s p) d.pilots
+      loose_pilots : (s : List V) → AllByRecursion (λ p. at k (with_constants k d 0 d.nets s) p ≡ at k s p) d.pilots
       loose_pilots s =
           All-weaker (λ p. (p < length d.nets) × (is_flop (driver_at d p) ≡ true))
           (λ p. at k (with_constants k d 0 d.nets s) p ≡ at k s p)
@@ -299,7 +299,7 @@ module _ {V : Type 0} (k : Kind V) where
           subst (λ (x : ℕ). Loose (driver_at d x)) f (flop_loose (driver_at d p) h.1)))
           d.pilots pilots_flops
 
-      not_pilot : (m : ℕ) (b : Bool) → driver_at d m ≡ driver.Constant b → All (λ y. m ≡ y → ⊥) d.pilots
+      not_pilot : (m : ℕ) (b : Bool) → driver_at d m ≡ driver.Constant b → AllByRecursion (λ y. m ≡ y → ⊥) d.pilots
       not_pilot m b u =
           All-weaker (λ p. (p < length d.nets) × (is_flop (driver_at d p) ≡ true)) (λ y. m ≡ y → ⊥)
           (λ p h e. both_ways false refl (ap is_flop (sym u) ∙ ap (λ (x : ℕ). is_flop (driver_at d x)) e ∙ h.1)) d.pilots pilots_flops
@@ -366,7 +366,7 @@ module _ {V : Type 0} (k : Kind V) where
         abbrev given_start : ℕ → Tri
         given_start p = get_or d.starts (n * flops d + flops_below d p) X
 
-        pilots_known : All (λ p. known (given_start p) ≡ true) d.pilots
+        pilots_known : AllByRecursion (λ p. known (given_start p) ≡ true) d.pilots
         pilots_known =
             all_every (λ p. known (given_start p)) d.pilots
             (all_below_at (start_count d) (λ j. every (λ p. known (get_or d.starts (j * flops d + flops_below d p) X)) d.pilots) n
@@ -397,7 +397,7 @@ module _ {V : Type 0} (k : Kind V) where
         own_known One e = own_of_bit true
         own_known X e = absurd (both_ways false refl e)
 
-        own_pinned : (s : List V) (ps : List ℕ) → All (λ p. Own (at k s p)) ps → Pinned k ps (key_from k d ps s) s
+        own_pinned : (s : List V) (ps : List ℕ) → AllByRecursion (λ p. Own (at k s p)) ps → Pinned k ps (key_from k d ps s) s
         own_pinned s [] h = tt
         own_pinned s (p ∷ ps) h =
             let b : Bool = k.allows (at k s p) true in
@@ -406,8 +406,8 @@ module _ {V : Type 0} (k : Kind V) where
               subst (λ (x : ℕ). Pinned k ps x s) (sym (high_bits b rest)) (own_pinned s ps h.1),
             )
 
-        own_pilots : (ps : List ℕ) → All (λ p. (p < length d.nets) × (is_flop (driver_at d p) ≡ true)) ps →
-            All (λ p. known (given_start p) ≡ true) ps → All (λ p. Own (at k (start_state k d n) p)) ps
+        own_pilots : (ps : List ℕ) → AllByRecursion (λ p. (p < length d.nets) × (is_flop (driver_at d p) ≡ true)) ps →
+            AllByRecursion (λ p. known (given_start p) ≡ true) ps → AllByRecursion (λ p. Own (at k (start_state k d n) p)) ps
         own_pilots [] h g = tt
         own_pilots (p ∷ ps) h g = (
           subst Own
@@ -427,7 +427,7 @@ module _ {V : Type 0} (k : Kind V) where
 
 -- ---- one cycle of bits, and the successor that covers it
 
-pub key_alike : {W : Type 0} (j : Kind W) (d : Core) (ps : List ℕ) (t s : List W) → All (λ p. at j t p ≡ at j s p) ps →
+pub key_alike : {W : Type 0} (j : Kind W) (d : Core) (ps : List ℕ) (t s : List W) → AllByRecursion (λ p. at j t p ≡ at j s p) ps →
     key_from j d ps t ≡ key_from j d ps s
 key_alike j d [] t s e = refl
 key_alike {W} j d (p ∷ ps) t s e =

@@ -1,7 +1,7 @@
 -- What a record holds lasts from start to start and from point to point. Assumes nothing.
 use Rattle.std.proofs.Common.{◌≡◌, ℕ, zero, suc, ◌+◌, ◌-◌, ◌%◌, ◌^◌, ◌<◌, ◌≤◌, Bool, true, false, cond, eqb, ◌⊎◌, List, [], ◌∷◌, ◌++◌, map, reverse, length, get_or, set, Some, sym, refl, ap, ◌∙◌, subst, ap₂, subst₂, inl, inr, ⊎_elim, append-nil, arith}
 use lib.ListN.{length-map, get_or-append}
-use Rattle.std.specs.List.{range_with_len, ContainsAt as Has, AllByRecursion as All}
+use Rattle.std.specs.List.{range_with_len, ContainsAt as Has, AllByRecursion}
 use Rattle.std.proofs.lemmas.List.FromFn.{map-range_with_len_more}
 use Rattle.std.proofs.ByRecursion.{All-weaker, All-append, All-set, All-get_or}
 use Rattle.std.proofs.lemmas.List.{get_or-map, get_or_push, length_push, reverse-append}
@@ -170,7 +170,7 @@ module _ {V : Type 0} (k : Kind V) (d : Core) where
             (behind : Below k d ps σ p rest) (good_here : Good k d (point_at ps p).key t)
             (small : (i : ℕ) → i < length ks → get_or ks i 0 < 2 ^ length d.pilots)
             (shut_here : f ≡ fate.Open → ⊥) (done_here : Done k d points_on states_on p)
-            (entered : All (Entered k d points_on states_on) es') where
+            (entered : AllByRecursion (Entered k d points_on states_on) es') where
           pub moved : Holds k d points_on (waiting_on rest) es' taken states_on
           moved = record {
             lengths = states_length ∙ sym points_length;
@@ -287,7 +287,7 @@ module _ {V : Type 0} (k : Kind V) (d : Core) where
         state_here r.points σ p fate.Walked t (successor_keys k d t) holds.lengths head.0,
       )
 
-      entered_rest : All (Entered k d points_walked states_walked) r.entries
+      entered_rest : AllByRecursion (Entered k d points_walked states_walked) r.entries
       entered_rest =
           All-weaker (Entered k d r.points σ) (Entered k d points_walked states_walked)
           (entered_on k d r.points points_walked σ states_walked
@@ -303,7 +303,7 @@ module _ {V : Type 0} (k : Kind V) (d : Core) where
             if_halted = λ e. absurd (let z : ◌≡◌ {A = ℕ} 0 1 = cc in omega arith);
           }
 
-      walked_on : (es : List (Entry V)) → All (Entered k d points_walked states_walked) es →
+      walked_on : (es : List (Entry V)) → AllByRecursion (Entered k d points_walked states_walked) es →
           Holds k d (treated k d r p rest (walk t es)).points (treated k d r p rest (walk t es)).waiting es taken states_walked
       walked_on es listed =
           moved r.points σ p fate.Walked t (successor_keys k d t) holds.lengths head.0 head.1 over_head ok r.waiting rest

@@ -1,6 +1,6 @@
 -- What the runs of a record without open points may draw. Assumes nothing.
 use Rattle.std.specs.Prelude.{◌≡◌, ℕ, zero, suc, ◌+◌, ◌≤◌, max, Bool, true, false, cond, List, [], ◌∷◌, map, length, take, drop, sum, ◌==◌, ◌≢◌}
-use Rattle.std.specs.List.{range_with_len, ContainsAt as Has, AllByRecursion as All}
+use Rattle.std.specs.List.{range_with_len, ContainsAt as Has, AllByRecursion}
 use Rattle.levels.specs.Kinds.{Kind, Cover}
 use Rattle.model.specs.Core.{Core, sound}
 use Rattle.model.specs.Cycle.{start_state}
@@ -82,7 +82,7 @@ WindowIsMost window = (ps : List Point) (w : ℕ) → IsWindow ps w (window ps w
 -- ---- runs
 
 abbrev pub NoOpen : List Point → Type 0
-NoOpen ps = All (λ x. x.fate ≢ fate.Open) ps
+NoOpen ps = AllByRecursion (λ x. x.fate ≢ fate.Open) ps
 
 module _ {B : Type 0} (j : Kind B) (d : Core) where
   -- what each cycle of a run draws
@@ -93,7 +93,7 @@ module _ {B : Type 0} (j : Kind B) (d : Core) where
 
   -- no cycle draws more than the peak, and no w cycles in a row, or fewer, draw more than the window of w
   pub record Bounded (peak : ℕ) (window : ℕ → ℕ) (run : List (List B)) : Type 0 where
-    pub each : All (λ x. x ≤ peak) (draws run)
+    pub each : AllByRecursion (λ x. x ≤ peak) (draws run)
     pub together : (w i n : ℕ) → n ≤ w → sum (take n (drop i (draws run))) ≤ window w
 
 -- With no point open, peak and window bound every run that begins in a state covered by a taken start, whatever its inputs.
