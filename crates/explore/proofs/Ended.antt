@@ -2,7 +2,7 @@
 use Rattle.std.proofs.Common.{◌≡◌, ℕ, List, [], length, Some, None}
 use Rattle.bundle.specs.declared.refusal.Fault.TheVariants as fault
 use Rattle.bundle.specs.declared.refusal.Refusal.{Refusal}
-use Rattle.bundle.proofs.WholeFacts.{answered}
+use Rattle.explore.proofs.Answered.{whole_answered}
 use Rattle.levels.specs.declared.Tri.{Tri}
 use Rattle.model.specs.Core.{Core}
 use Rattle.record.specs.declared.point.Point.{Point}
@@ -16,7 +16,7 @@ use Rattle.explore.specs.Moves.{Holds}
 use Rattle.explore.proofs.Fits.{Fitting, fitting}
 
 pub walk_fits : (d : Core) (m : Memory) → walk_refusal d m ≡ None → Fitting d m
-walk_fits d m none = fitting d m (answered (fits d m) fault.Memory 0 _ none).0
+walk_fits d m none = fitting d m (whole_answered (fits d m) fault.Memory _ none).0
 
 -- what the steps kept, and scratch all X
 pub keeps_of : (x x' : Exploration) (points points' : List Point) (opened opened' kept kept' scratch scratch' : List Tri) →

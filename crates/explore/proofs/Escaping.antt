@@ -10,7 +10,8 @@ use Rattle.levels.specs.declared.Tri.{Tri}
 use Rattle.levels.specs.BitLaws.{bit_lawful}
 use Rattle.levels.specs.TriLaws.{tri_lawful}
 use Rattle.bundle.specs.declared.refusal.Refusal.{Refusal}
-use Rattle.bundle.proofs.WholeFacts.{none_parts, ask_at_none, answered}
+use Rattle.bundle.proofs.WholeFacts.{none_parts, ask_at_none}
+use Rattle.explore.proofs.Answered.{whole_answered}
 use Rattle.model.specs.Core.{Core, sound}
 use Rattle.record.specs.declared.point.Point.{Point}
 use Rattle.record.specs.Record.{Record, Meaning, started, start_count, treated, nowhere}
@@ -35,14 +36,14 @@ use Rattle.explore.proofs.Fits.{fitting}
 
 peak_shut : (d : Core) (m : Memory) → peak_refusal d m ≡ None → open_refusal m.exploration ≡ None
 peak_shut d m e =
-    let fit = answered (fits d m) _ 0 _ e in
-    let begun = answered (ltb 0 m.exploration.point_count) _ 0 _ fit.1 in
+    let fit = whole_answered (fits d m) _ _ e in
+    let begun = whole_answered (ltb 0 m.exploration.point_count) _ _ fit.1 in
     (none_parts (open_refusal m.exploration) [] begun.1).0
 
 window_shut : (d : Core) (m : Memory) (row other w : ℕ) → window_refusal d m row other w ≡ None → open_refusal m.exploration ≡ None
 window_shut d m row other w e =
-    let fit = answered (fits d m && leb m.exploration.point_count row && leb m.exploration.point_count other) _ 0 _ e in
-    let begun = answered (ltb 0 m.exploration.point_count) _ 0 _ fit.1 in
+    let fit = whole_answered (fits d m && leb m.exploration.point_count row && leb m.exploration.point_count other) _ _ e in
+    let begun = whole_answered (ltb 0 m.exploration.point_count) _ _ fit.1 in
     (none_parts (open_refusal m.exploration) _ begun.1).0
 
 peak_is : (ps : List Point) → IsPeak ps (peak ps)
@@ -74,8 +75,8 @@ module _ (d : Core) (ok : sound d ≡ true) where
   counted : (n : ℕ) (m : Memory) → start_refusal d n m ≡ None → (length (view m).points ≡ m.exploration.point_count) × (n < start_count d)
   counted n m none =
       let x : Exploration = m.exploration in
-      let fit = answered (fits d m) _ 0 _ none in
-      let some = answered (ltb n (start_count d)) _ 0 _ fit.1 in
+      let fit = whole_answered (fits d m) _ _ none in
+      let some = whole_answered (ltb n (start_count d)) _ _ fit.1 in
       (length-take-le x.point_count m.lent.points (omega (arith, x.points_inside, (fitting d m fit.0).points_fit)), ltb-true n (start_count d) some.0)
 
   started_reached : (m after : Memory) (taken : List (ℕ × ℕ)) (n : ℕ) (answer : Result ℕ Refusal) → Reached tri_kind d (view m) taken →

@@ -5,7 +5,7 @@ use Rattle.std.proofs.lemmas.Bool.{and_parts}
 use Rattle.bundle.specs.declared.refusal.Fault.TheVariants as fault
 use Rattle.bundle.specs.declared.refusal.Refusal.{Refusal}
 use Rattle.bundle.specs.Format.{ask, ask_each, first_refusal}
-use Rattle.bundle.proofs.WholeFacts.{answered}
+use Rattle.explore.proofs.Answered.{whole_answered}
 use Rattle.model.specs.Core.{Core}
 use Rattle.record.specs.declared.point.Point.{Point}
 use Rattle.record.specs.Bounds.{window}
@@ -40,7 +40,7 @@ points_held d m fit = omega (arith, (fitting d m fit).points_fit, m.exploration.
 
 pub peak_held : (d : Core) (m : Memory) (fit : Bool) → fit ≡ fits d m → None ≡ first_refusal (done_questions fit m.exploration)
     → m.exploration.point_count ≤ length m.lent.points
-peak_held d m fit is none = points_held d m (sym is ∙ (answered fit fault.Memory 0 _ (sym none)).0)
+peak_held d m fit is none = points_held d m (sym is ∙ (whole_answered fit fault.Memory _ (sym none)).0)
 
 -- ---- window
 
@@ -55,7 +55,7 @@ module _ (d : Core) (m : Memory) (row other w : ℕ) where
   pub peak_allowed : window_refusal d m row other w ≡ None → (peak_refusal d m ≡ None) × (size ≤ length m.lent.points)
   peak_allowed none =
       let done = none_of_more (done_questions rows_fit m.exploration) _ none in
-      let all : rows_fit ≡ true = (answered rows_fit fault.Memory 0 _ done).0 in
+      let all : rows_fit ≡ true = (whole_answered rows_fit fault.Memory _ done).0 in
       let fit : fits d m ≡ true = (and_parts (fits d m) (leb size row) (and_parts (fits d m && leb size row) (leb size other) all).0).0 in
       (subst (λ (b : Bool). first_refusal (done_questions b m.exploration) ≡ None) (all ∙ sym fit) done, points_held d m fit)
 
@@ -67,7 +67,7 @@ module _ (d : Core) (m : Memory) (row other w : ℕ) where
     module _ (none : None ≡ first_refusal (done_questions fit m.exploration)) where
       fits_all : (rows_fit ≡ true) × (fits d m ≡ true) × ((leb size row && leb size other) ≡ true)
       fits_all =
-          let all : rows_fit ≡ true = sym is ∙ (answered fit fault.Memory 0 _ (sym none)).0 in
+          let all : rows_fit ≡ true = sym is ∙ (whole_answered fit fault.Memory _ (sym none)).0 in
           let two = and_parts (fits d m && leb size row) (leb size other) all in
           let one = and_parts (fits d m) (leb size row) two.0 in
           (all, one.0, (let a = one.1 in let b = two.1 in cc))

@@ -8,7 +8,7 @@ use Rattle.levels.specs.declared.Tri.{Tri}
 use Rattle.levels.specs.Tris.{tri_kind}
 use Rattle.bundle.specs.declared.refusal.Fault.TheVariants as fault
 use Rattle.bundle.specs.Format.{ask}
-use Rattle.bundle.proofs.WholeFacts.{answered}
+use Rattle.explore.proofs.Answered.{whole_answered}
 use Rattle.model.specs.Core.{Core, places}
 use Rattle.model.specs.Cycle.{start_state, key_of}
 use Rattle.record.specs.declared.point.Origin.TheVariants as origin
@@ -48,10 +48,10 @@ module _ (d : Core) (n : ℕ) (x : Exploration) (points : List Point) (opened ke
       let q = ask (ltb x.open_count (open_room x)) fault.NoSlot ∷ [] in
       let r = ask (ltb x.point_count (point_room x)) fault.NoPoint ∷ q in
       let s = ask (ltb n (start_count d)) fault.NoStart ∷ r in
-      let memory = answered (fits d m) fault.Memory 0 s e in
-      let start = answered (ltb n (start_count d)) fault.NoStart 0 r memory.1 in
-      let point = answered (ltb x.point_count (point_room x)) fault.NoPoint 0 q start.1 in
-      let slot = answered (ltb x.open_count (open_room x)) fault.NoSlot 0 [] point.1 in
+      let memory = whole_answered (fits d m) fault.Memory s e in
+      let start = whole_answered (ltb n (start_count d)) fault.NoStart r memory.1 in
+      let point = whole_answered (ltb x.point_count (point_room x)) fault.NoPoint q start.1 in
+      let slot = whole_answered (ltb x.open_count (open_room x)) fault.NoSlot [] point.1 in
       let fitted = fitting d m memory.0 in
       let below : x.point_count < point_room x = ltb-true x.point_count (point_room x) point.0 in
       let open_more = open_room_more x x.open_count (ltb-true x.open_count (open_room x) slot.0) in

@@ -8,34 +8,17 @@ pub invariant_of-self : goal.invariant_of-self
 invariant_of-self c =
     let x = c.args.self.now in
     let n = x.open_count - 1 in
-    let inside = mul-le n x.places x.open_count x.places (omega arith) (omega arith) in (
-      x.some_places,
-      (
-        x.few_points,
-        (
-          x.points_inside,
-          (
-            omega arith,
-            (
-              omega arith,
-              (
-                x.few_entries,
-                (
-                  x.entries_inside,
-                  (
-                    numbers_kept x.numbers x.open_count n x.point_count x.point_count (omega arith) (omega arith) x.numbers_used,
-                    (
-                      x.scratch_inside,
-                      (
-                        omega arith,
-                        (replaced_kept x.entries x.entry_count x.open_count x.point_count n x.point_count (omega arith) x.few_replaced, tt),
-                      ),
-                    ),
-                  ),
-                ),
-              ),
-            ),
-          ),
-        ),
-      ),
-    )
+    let inside = mul-le n x.places x.open_count x.places (omega arith) (omega arith) in
+    record {
+      some_places = x.some_places;
+      few_points = x.few_points;
+      points_inside = x.points_inside;
+      few_open = omega arith;
+      open_inside = omega arith;
+      few_entries = x.few_entries;
+      entries_inside = x.entries_inside;
+      numbers_used = numbers_kept x.numbers x.open_count n x.point_count x.point_count (omega arith) (omega arith) x.numbers_used;
+      scratch_inside = x.scratch_inside;
+      open_used = omega arith;
+      few_replaced = replaced_kept x.entries x.entry_count x.open_count x.point_count n x.point_count (omega arith) x.few_replaced;
+    }

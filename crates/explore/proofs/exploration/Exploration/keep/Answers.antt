@@ -10,40 +10,20 @@ invariant_of-self c =
     let x = c.args.self.now in
     let n = x.entry_count in
     let after : entries_after c.args.plan n ≡ n + 1 = ap (λ (q : Plan). entries_after q n) c.in-Add.is in
-    let room : n < length x.entries = let few : n < 256 = omega (arith, c.requires.few) in search rules in (
-      x.some_places,
-      (
-        x.few_points,
-        (
-          x.points_inside,
-          (
-            x.few_open,
-            (
-              x.open_inside,
-              (
-                omega (arith, c.requires.few),
-                (
-                  omega (arith, ap (λ (m : ℕ). m * x.places) after, c.requires.inside),
-                  (
-                    x.numbers_used,
-                    (
-                      x.scratch_inside,
-                      (
-                        x.open_used,
-                        (
-                          replaced_set x.entries n _ n (n + 1) x.open_count x.point_count room (omega (arith, x.open_used)) (λ i h other. omega arith) x.few_replaced,
-                          tt,
-                        ),
-                      ),
-                    ),
-                  ),
-                ),
-              ),
-            ),
-          ),
-        ),
-      ),
-    )
+    let room : n < length x.entries = let few : n < 256 = omega (arith, c.requires.few) in search rules in
+    record {
+      some_places = x.some_places;
+      few_points = x.few_points;
+      points_inside = x.points_inside;
+      few_open = x.few_open;
+      open_inside = x.open_inside;
+      few_entries = omega (arith, c.requires.few);
+      entries_inside = omega (arith, ap (λ (m : ℕ). m * x.places) after, c.requires.inside);
+      numbers_used = x.numbers_used;
+      scratch_inside = x.scratch_inside;
+      open_used = x.open_used;
+      few_replaced = replaced_set x.entries n _ n (n + 1) x.open_count x.point_count room (omega (arith, x.open_used)) (λ i h other. omega arith) x.few_replaced;
+    }
 
 pub keep_state-requires-in-Replace : goal.keep_state-requires-in-Replace
 keep_state-requires-in-Replace c =
@@ -58,40 +38,20 @@ invariant_of-self-in-Replace c =
     let i = c.in-Replace.entry in
     let inside = replaced_inside c.args.plan i c.in-Replace.count n x.places x.kept_length c.in-Replace.is c.requires.used c.requires.inside in
     let room : i < length x.entries = let few : i < 256 = omega (arith, x.few_entries, inside.0) in search rules in
-    let replaced : replaced_by c.args.plan ≡ c.in-Replace.count = ap replaced_by c.in-Replace.is in (
-      x.some_places,
-      (
-        x.few_points,
-        (
-          x.points_inside,
-          (
-            x.few_open,
-            (
-              x.open_inside,
-              (
-                x.few_entries,
-                (
-                  x.entries_inside,
-                  (
-                    x.numbers_used,
-                    (
-                      x.scratch_inside,
-                      (
-                        x.open_used,
-                        (
-                          replaced_set x.entries i _ n n x.open_count x.point_count room (omega (arith, c.requires.replaced)) (λ j h other. h) x.few_replaced,
-                          tt,
-                        ),
-                      ),
-                    ),
-                  ),
-                ),
-              ),
-            ),
-          ),
-        ),
-      ),
-    )
+    let replaced : replaced_by c.args.plan ≡ c.in-Replace.count = ap replaced_by c.in-Replace.is in
+    record {
+      some_places = x.some_places;
+      few_points = x.few_points;
+      points_inside = x.points_inside;
+      few_open = x.few_open;
+      open_inside = x.open_inside;
+      few_entries = x.few_entries;
+      entries_inside = x.entries_inside;
+      numbers_used = x.numbers_used;
+      scratch_inside = x.scratch_inside;
+      open_used = x.open_used;
+      few_replaced = replaced_set x.entries i _ n n x.open_count x.point_count room (omega (arith, c.requires.replaced)) (λ j h other. h) x.few_replaced;
+    }
 
 pub returns-in-Add : goal.returns-in-Add
 returns-in-Add c d =
