@@ -189,10 +189,12 @@ impl Pair<'_> {
         let rows = self.record.points.len();
         let library = self.bench.figures(self.design, width, rows, heap)?;
         let window = self.record.window(width as usize, heap);
-        let slow = match (self.record.peak(), window) {
-            (Ok(peak), Ok(window)) => Some(Answer::Figures(peak, window)),
-            (_, Err(stop)) => slow_answered(Err(stop)),
-            (Err(stop), _) => slow_answered(Err(stop)),
+        let slow = match window {
+            Ok(window) => match self.record.peak() {
+                Ok(peak) => Some(Answer::Figures(peak, window)),
+                Err(stop) => slow_answered(Err(stop)),
+            },
+            Err(stop) => slow_answered(Err(stop)),
         };
         agree_on(&mut tally.figures, "peak and window", library, slow, heap)?;
         self.compare(tally, heap)

@@ -33,19 +33,20 @@ const fn step(origin: usize, key: usize, charge: u32, fate: Fate) -> Point {
 
 // The toggling tag, as bodies.
 fn toggling(heap: Global) -> Result<Parts, AllocError> {
+    let bytes = TOGGLING;
     Ok(Parts {
         clock: 8,
         rom_energy: 0,
         ram_energy: 2,
         write_energy: 7,
         window: 2,
-        cells: TOGGLING[74..114].to_vec(heap)?,
-        nets: TOGGLING[114..164].to_vec(heap)?,
-        rom: TOGGLING[164..166].to_vec(heap)?,
-        ram: TOGGLING[166..170].to_vec(heap)?,
-        wires: TOGGLING[170..204].to_vec(heap)?,
-        pilots: TOGGLING[204..210].to_vec(heap)?,
-        starts: TOGGLING[210..212].to_vec(heap)?,
+        cells: bytes[74..114].to_vec(heap)?,
+        nets: bytes[114..164].to_vec(heap)?,
+        rom: bytes[164..166].to_vec(heap)?,
+        ram: bytes[166..170].to_vec(heap)?,
+        wires: bytes[170..204].to_vec(heap)?,
+        pilots: bytes[204..210].to_vec(heap)?,
+        starts: bytes[210..212].to_vec(heap)?,
         others: Vec::new(heap),
     })
 }
@@ -97,14 +98,14 @@ fn is_listing(points: &[Point]) -> bool {
         charge: 0,
         fate: Fate::Walked,
     };
-    points
-        == [
-            first,
-            step(0, 0, 16, Fate::Cut(0)),
-            step(0, 2, 26, Fate::Walked),
-            step(2, 0, 24, Fate::Cut(0)),
-            step(2, 2, 16, Fate::Cut(2)),
-        ]
+    let listing = [
+        first,
+        step(0, 0, 16, Fate::Cut(0)),
+        step(0, 2, 26, Fate::Walked),
+        step(2, 0, 24, Fate::Cut(0)),
+        step(2, 2, 16, Fate::Cut(2)),
+    ];
+    points == listing.as_slice()
 }
 
 // The toggling tag is explored as worked out by hand: its points, its peak and its windows.
