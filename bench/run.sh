@@ -5,9 +5,12 @@ set -euo pipefail
 cd "$(dirname "$0")/.."
 work=$(mktemp -d)
 trap 'rm -rf "$work"' EXIT
-rt staticlib timed > "$work/staticlib.log"
-runtime=$(sed -n 's/.*link \([^ ]*\) beside it.*/\1/p' "$work/staticlib.log")
-gcc -O3 -Wall -Wextra bench/timed.c bench/plain.c target/staticlib/libtimed.a "$runtime" -o "$work/timed"
+if ! (cd crates/timed && rt lib) > "$work/lib.log" 2>&1; then
+    cat "$work/lib.log"
+    exit 1
+fi
+runtime=$(dirname "$(dirname "$(readlink -f "$(command -v rt)")")")/c/liblibc_c.a
+gcc -O3 -Wall -Wextra bench/timed.c bench/plain.c crates/timed/out/libtimed.a "$runtime" -o "$work/timed"
 python3 bench/make_tag.py > "$work/large.bin"
 ulimit -s unlimited
 "$work/timed" shelf/threshold.bin "$work/large.bin" > "$work/table"

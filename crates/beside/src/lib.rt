@@ -1,4 +1,6 @@
 // The library and the slow simulator side by side: the same calls to both, what they answer in one form, and how often it agreed.
+#![tactic(auto)]
+
 mod answer;
 mod bench;
 mod pair;

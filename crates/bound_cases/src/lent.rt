@@ -127,7 +127,11 @@ impl Lent {
         Ok(())
     }
 
-    pub(crate) fn make(&mut self, rt: &impl Abort, design: &Design) -> Result<Result<(), Refusal>, Fail> {
+    pub(crate) fn make(
+        &mut self,
+        rt: &impl Abort,
+        design: &Design,
+    ) -> Result<Result<(), Refusal>, Fail> {
         let before = self.copy()?;
         self.spoil();
         let answer = self.exploration.make(
@@ -194,7 +198,13 @@ impl Lent {
     }
 
     // Takes so many points, if any.
-    fn take<R: Rule>(&mut self, rt: &impl Abort, design: &Design, rule: &R, count: usize) -> Result<(), Fail> {
+    fn take<R: Rule>(
+        &mut self,
+        rt: &impl Abort,
+        design: &Design,
+        rule: &R,
+        count: usize,
+    ) -> Result<(), Fail> {
         if count != 0 {
             let answer = self.exploration.walk(
                 design,
@@ -210,7 +220,11 @@ impl Lent {
         Ok(())
     }
 
-    pub(crate) fn peak(&mut self, rt: &impl Abort, design: &Design) -> Result<Result<u32, Refusal>, Fail> {
+    pub(crate) fn peak(
+        &mut self,
+        rt: &impl Abort,
+        design: &Design,
+    ) -> Result<Result<u32, Refusal>, Fail> {
         self.spoil();
         let answer = self.exploration.peak(
             design,
@@ -254,7 +268,12 @@ impl Lent {
         Ok(answer)
     }
 
-    fn figures(&mut self, rt: &impl Abort, design: &Design, width: u16) -> Result<Result<Figures, Refusal>, Fail> {
+    fn figures(
+        &mut self,
+        rt: &impl Abort,
+        design: &Design,
+        width: u16,
+    ) -> Result<Result<Figures, Refusal>, Fail> {
         self.spoil();
         let answer = self.exploration.figures(
             design,

@@ -82,12 +82,24 @@ fn take_step<R: Rule>(
             };
             answers(rt, said(made, heap)?, text)
         }
-        Step::Start(number, text) => answers(rt, said(lent.start(rt, design, number)?, heap)?, text),
+        Step::Start(number, text) => answers(
+            rt,
+            said(lent.start(rt, design, number)?, heap)?,
+            text,
+        ),
         Step::Walk(budget, text) => {
-            answers(rt, walk_said(lent.walk(rt, design, rule, budget)?, heap)?, text)
+            answers(
+                rt,
+                walk_said(lent.walk(rt, design, rule, budget)?, heap)?,
+                text,
+            )
         }
         Step::Peak(text) => answers(rt, said(lent.peak(rt, design)?, heap)?, text),
-        Step::Window(width, text) => answers(rt, said(lent.window(rt, design, width)?, heap)?, text),
+        Step::Window(width, text) => answers(
+            rt,
+            said(lent.window(rt, design, width)?, heap)?,
+            text,
+        ),
         Step::List(text) => answers(rt, listing(lent, heap)?, text),
     }
 }

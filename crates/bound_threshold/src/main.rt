@@ -1,5 +1,8 @@
 // Bounds what any run of the tag in standard input draws.
+#![tactic(auto)]
 
-fn main(rt: HostRuntime) -> anyhow::Result<()> {
+use std::process::ExitCode;
+
+fn main(rt: HostRuntime) -> anyhow::Result<ExitCode> {
     bounder::bound_program(&rt)
 }

@@ -1,4 +1,6 @@
 // All runs of a tag bounded: every start taken, explored under the plain rule, and the two figures.
+#![tactic(auto)]
+
 mod bounding;
 mod head;
 mod program;

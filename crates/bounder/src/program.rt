@@ -8,6 +8,7 @@ use explore::Exploration;
 use levels::Tri;
 use record::{Fate, Origin, Point};
 use std::alloc::Global;
+use std::process::ExitCode;
 
 // The most points, open points and entries that there is memory for.
 const MOST_POINTS: usize = 4096;
@@ -64,7 +65,8 @@ fn print_listing(rt: &HostRuntime) -> Result<(), Stop> {
     Ok(())
 }
 
-// Reads a bundle from standard input, and prints its listing, or the refusal. An error ends the program with status 1.
-pub fn bound_program(rt: &HostRuntime) -> anyhow::Result<()> {
+// Reads a bundle from standard input, and prints its listing, or the refusal. A refusal or an error ends the program
+// with status 1.
+pub fn bound_program(rt: &HostRuntime) -> anyhow::Result<ExitCode> {
     finish(rt, print_listing(rt))
 }

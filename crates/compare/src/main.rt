@@ -1,5 +1,7 @@
 // Sets the library beside a second simulator, on random small tags. It prints how often each kind of case came up and agreed, and
 // ends with an error at the first case that does not agree.
+#![tactic(auto)]
+
 mod damage;
 mod exploring;
 mod limits;

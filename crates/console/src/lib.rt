@@ -1,4 +1,6 @@
 // What the programs share: how much they read, how large a core they take, and how they end.
+#![tactic(auto)]
+
 mod input;
 mod limits;
 mod stop;

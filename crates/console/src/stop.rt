@@ -1,7 +1,7 @@
-use anyhow::anyhow;
 use bundle::Refusal;
 use std::alloc::AllocError;
 use std::io;
+use std::process::ExitCode;
 
 // Why a program prints nothing else: what was asked is refused, or something outside failed.
 #[derive(Drop)]
@@ -29,12 +29,12 @@ impl From<AllocError> for Stop {
 }
 
 // How a program ends: a refusal is printed as one line, what failed outside is reported, and either ends it with status 1.
-pub fn finish(rt: &HostRuntime, res: Result<(), Stop>) -> anyhow::Result<()> {
+pub fn finish(rt: &HostRuntime, res: Result<(), Stop>) -> anyhow::Result<ExitCode> {
     match res {
-        Ok(()) => Ok(()),
+        Ok(()) => Ok(ExitCode::SUCCESS),
         Err(Stop::Refused(refusal)) => {
             println!(rt; "{refusal}")?;
-            Err(anyhow!("refused"))
+            Ok(ExitCode::FAILURE)
         }
         Err(Stop::Failed(error)) => Err(error),
     }

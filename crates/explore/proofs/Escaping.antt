@@ -1,5 +1,5 @@
 -- No run escapes the record, whatever calls were made. Assumes nothing.
-use Rattle.std.proofs.Common.{◌≡◌, ℕ, zero, suc, ◌<◌, ◌≤◌, true, ◌&&◌, eqb, ltb, leb, ◌⊎◌, List, [], ◌∷◌, map, reverse, length, get_or, take, drop, Some, None, Ok, Err, sum, Option, Result, sym, refl, ap, ◌∙◌, subst, inl, inr, ⊎_elim, arith, ltb-true, MatchResult}
+use Rattle.std.proofs.Common.{◌≡◌, ℕ, ◌<◌, ◌≤◌, true, ◌&&◌, eqb, ltb, leb, List, [], ◌∷◌, map, reverse, length, get_or, take, drop, Some, None, Ok, Err, sum, Option, Result, sym, ap, ◌∙◌, subst, inl, inr, ⊎_elim, arith, ltb-true}
 use Rattle.std.specs.List.{range_with_len, ContainsAt as Has, AllByRecursion}
 use Rattle.std.proofs.lemmas.List.{length-take-le, length-map, get_or-map}
 use Rattle.std.proofs.lemmas.Bool.{eqb-true}
@@ -18,7 +18,7 @@ use Rattle.record.specs.Record.{Record, Meaning, started, start_count, treated, 
 use Rattle.record.specs.Record as recorded
 use Rattle.record.specs.Escape.{Reached, RuleCovers}
 use Rattle.record.specs.Escape as reached
-use Rattle.record.specs.Bounds.{peak, window, NoOpen, Bounded, IsWindow, draws, greatest}
+use Rattle.record.specs.Bounds.{peak, window, NoOpen, Bounded, IsWindow, draws}
 use Rattle.record.proofs.Held.{no_run_escapes}
 use Rattle.record.proofs.Bound.{no_run_draws_more, window_is_most, greatest_met, peak_bounds}
 use Rattle.record.proofs.Wait.{none_open}

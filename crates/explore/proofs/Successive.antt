@@ -1,12 +1,12 @@
 -- Points and open points added one after the other. Assumes nothing.
-use Rattle.std.proofs.Common.{◌≡◌, ℕ, ◌+◌, ◌*◌, ◌<◌, ◌≤◌, true, ltb, List, [], ◌∷◌, ◌++◌, map, reverse, length, get_or, take, drop, set, sym, refl, ap, ◌∙◌, subst, arith}
+use Rattle.std.proofs.Common.{◌≡◌, ℕ, ◌+◌, ◌*◌, ◌<◌, ◌≤◌, List, [], ◌∷◌, ◌++◌, map, reverse, length, get_or, take, drop, set, sym, refl, ap, ◌∙◌, subst, arith}
 use borrow.Rule.Slice.PartMut.{put_mid}
 use Rattle.std.specs.List.{range_with_len}
 use Rattle.std.proofs.lemmas.List.FromFn.{map-range_with_len_more}
 use Rattle.std.proofs.lemmas.List.{append-nil, append_assoc, drop-drop, drop-set-lt, reverse-append, map_more, take_all}
 use Rattle.levels.specs.declared.Tri.{Tri}
 use Rattle.levels.specs.Tris.{tri_kind}
-use Rattle.model.specs.Core.{Core, all_below}
+use Rattle.model.specs.Core.{Core}
 use Rattle.model.specs.Energy.{charge as drawn}
 use Rattle.record.specs.declared.point.Origin.TheVariants as origin
 use Rattle.record.specs.declared.point.Fate.TheVariants as fate

@@ -1,5 +1,5 @@
 -- Looking up a key, and the treatments of a plan. Assumes nothing.
-use Rattle.std.proofs.Common.{◌≡◌, ℕ, suc, ◌+◌, ◌-◌, ◌*◌, ◌%◌, ◌<◌, ◌≤◌, Bool, true, false, cond, eqb, leb, ◌⊎◌, List, [], ◌∷◌, ◌++◌, map, length, get_or, take, drop, set, Some, None, Ok, Err, Option, Result, sym, ap, ◌∙◌, subst, ap₂, ⊎_elim, arith, MatchResult}
+use Rattle.std.proofs.Common.{◌≡◌, ℕ, suc, ◌+◌, ◌-◌, ◌*◌, ◌%◌, ◌<◌, ◌≤◌, Bool, true, false, cond, eqb, leb, List, [], ◌∷◌, ◌++◌, map, length, get_or, take, drop, set, Some, None, Ok, Err, Option, Result, sym, ap, ◌∙◌, subst, ap₂, ⊎_elim, arith, MatchResult}
 use Rattle.std.specs.List.{range_with_len}
 use Rattle.std.proofs.lemmas.Nat.{mul-le}
 use Rattle.std.proofs.lemmas.List.FromFn.{length-map-range_with_len, get_or-map-range_with_len}
@@ -11,7 +11,6 @@ use Rattle.engine.specs.Refusals.{wrong_memory}
 use Rattle.model.specs.Core.{Core, places}
 use Rattle.model.proofs.Sound.{all_below_at}
 use Rattle.record.specs.Record.{Record, Entry, Meaning, halt, cut, walk, Treated, halts, passes_new, passes_known, keeps, cuts, merges, key_of_point, entry_at, entry_for, look_up, is_marked, covers_all, restored, no_entry as none}
-use Rattle.explore.specs.declared.plan.Plan.TheVariants as plan
 use Rattle.explore.specs.declared.exploration.Exploration.{Exploration}
 use Rattle.explore.specs.Memory.{stretch, no_entry}
 use Rattle.explore.proofs.Views.{times_more}

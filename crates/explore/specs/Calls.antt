@@ -1,5 +1,5 @@
 -- The calls of an exploration, each as a relation between memory before, the call, its answer and memory after. Assumes nothing.
-use Rattle.std.specs.Prelude.{◌≡◌, ℕ, zero, suc, ◌+◌, ◌*◌, Bool, true, false, cond, not, ◌&&◌, List, [], ◌∷◌, ◌++◌, length, drop, replicate, Some, None, Ok, Err, Option, Result, MatchResult, ◌==◌, nat_le, nat_lt, slice_index}
+use Rattle.std.specs.Prelude.{◌≡◌, ℕ, suc, ◌+◌, ◌*◌, Bool, not, ◌&&◌, List, [], ◌∷◌, ◌++◌, length, drop, replicate, Some, None, Ok, Err, Option, Result, MatchResult, ◌==◌, nat_le, nat_lt, slice_index}
 use Rattle.levels.specs.declared.Tri.{Tri}
 use Rattle.levels.specs.declared.Tri.TheVariants.{X}
 use Rattle.levels.specs.Tris.{tri_kind}

@@ -1,13 +1,12 @@
 -- What one step writes: points and open points behind those in use, and one entry. Assumes nothing.
-use Rattle.std.specs.Prelude.{◌≡◌, ℕ, ◌+◌, ◌*◌, ◌<◌, ◌≤◌, true, ltb, List, ◌++◌, get_or, take, drop}
+use Rattle.std.specs.Prelude.{◌≡◌, ℕ, ◌+◌, ◌*◌, ◌<◌, List, ◌++◌, take, drop}
 use Rattle.levels.specs.declared.Tri.{Tri}
-use Rattle.model.specs.Core.{Core, all_below}
+use Rattle.model.specs.Core.{Core}
 use Rattle.record.specs.declared.point.Point.{Point}
 use Rattle.record.specs.Record as recorded
 use Rattle.explore.specs.declared.plan.Plan.{Plan}
 use Rattle.explore.specs.declared.plan.Plan.TheVariants.{Halt, Cut, Pass, Add, Replace}
 use Rattle.explore.specs.declared.exploration.Entry.{Entry}
-use Rattle.explore.specs.Memory.{no_entry}
 use Rattle.explore.specs.Parts.{open_points, kept_entries}
 use Rattle.explore.specs.Plans.{planned_entries}
 

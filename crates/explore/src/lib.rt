@@ -1,4 +1,6 @@
 // An exploration of every run at once, over lent memory.
+#![tactic(auto)]
+
 mod answers;
 mod asking;
 mod ending;

@@ -1,4 +1,6 @@
 // The peak and the window of recorded points.
+#![tactic(auto)]
+
 mod best;
 mod charges;
 mod naming;

@@ -6,7 +6,6 @@ ghost use Rattle.model.specs.Core.{places};
 ghost use Rattle.design.specs.Views.{core};
 
 use crate::run::{Cycle, play};
-use anyhow::anyhow;
 use bundle::{Fault, Refusal};
 use decode::read_design;
 use design::Design;
@@ -15,6 +14,7 @@ use std::alloc::{AllocError, Global};
 use std::fs::File;
 use std::io;
 use std::io::Read;
+use std::process::ExitCode;
 
 // The most bytes that are read of the bundle, and of the lines.
 const MOST_BYTES: u64 = 32768;
@@ -90,13 +90,13 @@ fn print_run(rt: &HostRuntime) -> Result<(), Stop> {
     Ok(())
 }
 
-// Reads `tag.bin` and standard input, and prints the run, or the refusal. An error ends the program with status 1.
-pub fn play_program(rt: &HostRuntime) -> anyhow::Result<()> {
+// Reads `tag.bin` and standard input, and prints the run, or the refusal. A refusal or an error ends the program with status 1.
+pub fn play_program(rt: &HostRuntime) -> anyhow::Result<ExitCode> {
     match print_run(rt) {
-        Ok(()) => Ok(()),
+        Ok(()) => Ok(ExitCode::SUCCESS),
         Err(Stop::Refused(refusal)) => {
             println!(rt; "{refusal}")?;
-            Err(anyhow!("refused"))
+            Ok(ExitCode::FAILURE)
         }
         Err(Stop::Failed(error)) => Err(error),
     }

@@ -1,4 +1,6 @@
 // Random small tags, as bundles, the same at every run.
+#![tactic(auto)]
+
 mod making;
 mod parts;
 mod random;

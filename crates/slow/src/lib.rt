@@ -1,5 +1,7 @@
 // A second simulator of tags, written the slow way: every rule is put as it is said, with lists and by going through every choice.
 // It shares no code with the engine and its definitions, so that what they answer can be held against it.
+#![tactic(auto)]
+
 mod charge;
 mod edge;
 mod figures;

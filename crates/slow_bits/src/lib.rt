@@ -1,5 +1,7 @@
 // A run of a tag in bits, written the slow way: an address is a number, and a line is a list. It shares no code with the engine and
 // the player, so that what they answer can be held against it.
+#![tactic(auto)]
+
 mod bits;
 mod lines;
 

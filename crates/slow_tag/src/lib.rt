@@ -1,5 +1,7 @@
 // A second reader of bundles, written the slow way: every question is put as it is said, to plain lists. It shares no code with
 // the other crates, so that what they answer can be held against it.
+#![tactic(auto)]
+
 mod bodies;
 mod contents;
 mod entries;

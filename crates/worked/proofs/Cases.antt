@@ -1,5 +1,5 @@
 -- The worked cases, by computing. Assumes nothing.
-use Rattle.std.proofs.Common.{◌≡◌, ℕ, ◌≤◌, Bool, true, leb, List, [], ◌∷◌, None, refl, arith}
+use Rattle.std.proofs.Common.{◌≡◌, ℕ, ◌≤◌, leb, List, [], ◌∷◌, None, refl, arith}
 use Rattle.std.proofs.lemmas.Bool.{le-leb}
 use Rattle.levels.specs.declared.Tri.{Tri}
 use Rattle.levels.specs.Tris.{tri_kind}
@@ -7,12 +7,11 @@ use Rattle.bundle.specs.declared.refusal.Fault.TheVariants as fault
 use Rattle.bundle.specs.Format.{ask_at, first_refusal}
 use Rattle.record.specs.Record.{Record, Entry, Waiting, Treatment, walk, cut, keeps, cuts, treated, after_key, entry_for}
 use Rattle.model.specs.Cycle.{start_state}
-use Rattle.rules.specs.Meanings.{plain_meaning}
 use Rattle.explore.specs.declared.answers.Ending.TheVariants as ending
 use Rattle.explore.specs.declared.exploration.Exploration.{Exploration}
 use Rattle.explore.specs.Memory.{point_room, open_room, entry_room}
-use Rattle.explore.specs.Calls.{Takes, takes, done}
-use Rattle.worked.specs.Worked.{WorkedCases, Listed, toggling, toggling_started, toggling_points}
+use Rattle.explore.specs.Calls.{takes, done}
+use Rattle.worked.specs.Worked.{WorkedCases, Listed, toggling, toggling_started}
 
 -- ---- the states of points 0 to 4, and the entries
 

@@ -1,4 +1,4 @@
-use Rattle.std.proofs.Common.{◌≡◌, ℕ, ◌+◌, ◌-◌, ◌*◌, ◌≤◌, length, sym, ap, ◌∙◌, subst, ap₂, arith}
+use Rattle.std.proofs.Common.{◌≡◌, ℕ, ◌+◌, ◌-◌, ◌*◌, sym, ap, ◌∙◌, subst, ap₂, arith}
 use Rattle.design.specs.Views.{core}
 use Rattle.explore.specs.Steps.{InUse, entries_after}
 use Rattle.explore.proofs.Moving.{walked_record}
