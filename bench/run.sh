@@ -18,7 +18,7 @@ ulimit -s unlimited
     sed '/^<!-- table -->$/q' docs/BENCHMARKS.md
     cat "$work/table"
     echo
-    echo "Measured on $(date -u +%Y-%m-%d) with $(gcc --version | head -n 1), $(grep -m 1 'model name' /proc/cpuinfo | sed 's/.*: //')."
+    echo "Measured on $(date -u +%Y-%m-%d) with $(rt version), $(gcc --version | head -n 1), $(grep -m 1 'model name' /proc/cpuinfo | sed 's/.*: //')."
     sed -n '/^<!-- end of table -->$/,$p' docs/BENCHMARKS.md
 } > "$work/page"
 cp "$work/page" docs/BENCHMARKS.md

@@ -39,18 +39,18 @@ begun d first h n m (one_more i p before _ rest start) =
     }
 
 -- what the calls of an answered exploration lead to
-pub bounds_hold : (d : Core) → sound d ≡ true → (place : Exploration) (lent : Lent) (row other : List ℕ) (after : Memory) (row_after other_After : List ℕ) (answer : Result Head Refusal) →
-    Bounds d place lent row other after row_after other_After answer → IfOk answer (NoRunDrawsMore d)
-bounds_hold d ok place lent row other after row_after other_After answer (bounded.not_made _ e IfOk) = tt
-bounds_hold d ok place lent row other after row_after other_After answer (bounded.not_started m _ e IfOk starts) = tt
-bounds_hold d ok place lent row other after row_after other_After answer (bounded.not_walked m n _ count e IfOk starts walks) = tt
-bounds_hold d ok place lent row other after row_after other_After answer (bounded.walked m n w _ _ _ count end (Err e) IfOk starts walks ended figured) = tt
-bounds_hold d ok place lent row other after row_after other_After answer (bounded.walked m n w _ _ _ count end (Ok f) IfOk starts walks ended figured) =
+pub bounds_hold : (d : Core) → sound d ≡ true → (place : Exploration) (lent : Lent) (row other : List ℕ) (after : Memory) (row_after other_after : List ℕ) (answer : Result Head Refusal) →
+    Bounds d place lent row other after row_after other_after answer → IfOk answer (NoRunDrawsMore d)
+bounds_hold d ok place lent row other after row_after other_after answer (bounded.not_made _ e IfOk) = tt
+bounds_hold d ok place lent row other after row_after other_after answer (bounded.not_started m _ e IfOk starts) = tt
+bounds_hold d ok place lent row other after row_after other_after answer (bounded.not_walked m n _ count e IfOk starts walks) = tt
+bounds_hold d ok place lent row other after row_after other_after answer (bounded.walked m n w _ _ _ count end (Err e) IfOk starts walks ended figured) = tt
+bounds_hold d ok place lent row other after row_after other_after answer (bounded.walked m n w _ _ _ count end (Ok f) IfOk starts walks ended figured) =
     let first : History d m [] = subst (λ (x : Memory). History d x []) (sym IfOk.1) (history.made place m.exploration lent IfOk.0) in
     let b = begun d m first (start_count d) n starts in
     let holds = no_run_escapes_the_record d ok w b.taken (history.walk n w b.taken plain_meaning 65535 (count, end) b.calls plain_covering walks) in
     λ i l c rest run.
     let taken = b.each i l in (
       (holds.peak_bounds after f.peak figured.0).1 taken.0 i taken.1 c rest run,
-      λ j k few. (holds.window_bounds d.window row other after row_after other_After f.window figured.1).1 taken.0 i taken.1 c rest run j k few,
+      λ j k few. (holds.window_bounds d.window row other after row_after other_after f.window figured.1).1 taken.0 i taken.1 c rest run j k few,
     )

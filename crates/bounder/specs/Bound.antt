@@ -71,12 +71,12 @@ pub data Bounds (d : Core) (place : Exploration) (lent : Lent) (row other : List
       StartsAll d m n (Ok tt) →
       Walks d plain_meaning 65535 n after (count, ending.Refused e) →
       Bounds d place lent row other after row other (Err e)
-  walked : (m n w after : Memory) (row_after other_After : List ℕ) (count : ℕ) (end : Ending) (answer : Result Figures Refusal) →
+  walked : (m n w after : Memory) (row_after other_after : List ℕ) (count : ℕ) (end : Ending) (answer : Result Figures Refusal) →
       MakesOver d place lent m (Ok tt) →
       StartsAll d m n (Ok tt) →
       Walks d plain_meaning 65535 n w (count, end) → Ended end →
-      Figured d d.window w row other after row_after other_After answer →
-      Bounds d place lent row other after row_after other_After (headed d after.exploration answer)
+      Figured d d.window w row other after row_after other_after answer →
+      Bounds d place lent row other after row_after other_after (headed d after.exploration answer)
 
 -- ---- what the runs draw
 

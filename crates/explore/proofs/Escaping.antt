@@ -108,7 +108,7 @@ module _ (d : Core) (ok : sound d ≡ true) where
       walked_reached before m taken rule budget answer (rule_covers tri_kind rule cov d) (history_reached before taken h) w
   history_reached m taken (history.peak before _ _ answer h p) =
       subst (λ (a : Memory). Reached tri_kind d (view a) taken) (sym p.0) (history_reached before taken h)
-  history_reached m taken (history.window before _ _ w row other row_after other_After answer h p) =
+  history_reached m taken (history.window before _ _ w row other row_after other_after answer h p) =
       subst (λ (a : Memory). Reached tri_kind d (view a) taken) (sym p.0) (history_reached before taken h)
 
   -- ---- what then holds
@@ -136,7 +136,7 @@ module _ (d : Core) (ok : sound d ≡ true) where
           λ p n in_taken c rest run.
               subst (λ (y : ℕ). AllByRecursion (λ e. e ≤ y) (draws bit_kind d (c ∷ rest))) (sym answered.1.1) (run_bounded m taken h shut p n in_taken c rest run).each,
         );
-    window_bounds = λ w row other after row_after other_After x answered.
+    window_bounds = λ w row other after row_after other_after x answered.
         let shut = window_shut d m (length row) (length other) w answered.3.0 in (
           subst (IsWindow (used_points m) w) (sym answered.3.1) (window_is_most (used_points m) w),
           λ p n in_taken c rest run i k few.

@@ -169,8 +169,8 @@ window_refusal d m first_row second_row w =
     ∷ [])))
 
 abbrev pub Windows : Core → ℕ → Memory → List ℕ → List ℕ → Memory → List ℕ → List ℕ → Result ℕ Refusal → Type 0
-Windows d w before row other after row_after other_After answer =
-    (after ≡ cleared before) × (row_after ≡ replicate (length row) 0) × (other_After ≡ replicate (length other) 0)
+Windows d w before row other after row_after other_after answer =
+    (after ≡ cleared before) × (row_after ≡ replicate (length row) 0) × (other_after ≡ replicate (length other) 0)
     × MatchResult answer
     (λ n. (window_refusal d before (length row) (length other) w ≡ None) × (n ≡ window (used_points before) w))
     (λ e. window_refusal d before (length row) (length other) w ≡ Some e)
@@ -179,7 +179,7 @@ Windows d w before row other after row_after other_After answer =
 
 -- refused as the window is
 abbrev pub Figured : Core → ℕ → Memory → List ℕ → List ℕ → Memory → List ℕ → List ℕ → Result Figures Refusal → Type 0
-Figured d w before row other after row_after other_After answer =
+Figured d w before row other after row_after other_after answer =
     MatchResult answer
-    (λ f. Peaks d before after (Ok f.peak) × Windows d w before row other after row_after other_After (Ok f.window))
-    (λ e. Windows d w before row other after row_after other_After (Err e))
+    (λ f. Peaks d before after (Ok f.peak) × Windows d w before row other after row_after other_after (Ok f.window))
+    (λ e. Windows d w before row other after row_after other_after (Err e))

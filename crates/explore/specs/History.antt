@@ -35,8 +35,8 @@ pub data History (d : Core) : Memory → List (ℕ × ℕ) → Type 0 where
       History d m taken → Covering rule → Walks d rule budget m after answer → History d after taken
   peak : (m after : Memory) (taken : List (ℕ × ℕ)) (answer : Result ℕ Refusal) →
       History d m taken → Peaks d m after answer → History d after taken
-  window : (m after : Memory) (taken : List (ℕ × ℕ)) (w : ℕ) (row other row_after other_After : List ℕ) (answer : Result ℕ Refusal) →
-      History d m taken → Windows d w m row other after row_after other_After answer → History d after taken
+  window : (m after : Memory) (taken : List (ℕ × ℕ)) (w : ℕ) (row other row_after other_after : List ℕ) (answer : Result ℕ Refusal) →
+      History d m taken → Windows d w m row other after row_after other_after answer → History d after taken
 
 -- A run in bits from a taken start: it begins in a state that the start's state covers.
 pub record RunsFrom (d : Core) (n : ℕ) (c : List Bit) (rest : List (List Bit)) : Type 0 where
@@ -60,8 +60,8 @@ pub record HoldsEveryRun (d : Core) (m : Memory) (taken : List (ℕ × ℕ)) : T
       AllByRecursion (λ e. e ≤ x) (draws bit_kind d (c ∷ rest)))
   -- an answered window of w is the most that w steps of a recorded path or fewer draw, and no w successive cycles of any run, or
   -- fewer, draw more
-  pub window_bounds : (w : ℕ) (row other : List ℕ) (after : Memory) (row_after other_After : List ℕ) (x : ℕ) →
-      Windows d w m row other after row_after other_After (Ok x) →
+  pub window_bounds : (w : ℕ) (row other : List ℕ) (after : Memory) (row_after other_after : List ℕ) (x : ℕ) →
+      Windows d w m row other after row_after other_after (Ok x) →
       IsWindow (used_points m) w x
       × ((p n : ℕ) → Has taken (p, n) → (c : List Bit) (rest : List (List Bit)) → RunsFrom d n c rest →
       (i k : ℕ) → k ≤ w → sum (take k (drop i (draws bit_kind d (c ∷ rest)))) ≤ x)
