@@ -30,7 +30,7 @@ impl<T: Drop> From<AllocFailed<T>> for Stop {
     }
 }
 
-// Questions 1 to 5 are of the bundle, 6 to 12 of the design, the others of the calls.
+// Refusals 1 to 5 are of the bundle, 6 to 12 of the design, the others of the calls.
 fn layer_of(number: u8) -> u8 {
     if number <= 5 {
         1
