@@ -58,8 +58,9 @@ pub(crate) fn listing(lent: &Lent, heap: Global) -> Result<String, Fail> {
     Ok(text)
 }
 
-pub(crate) fn answers(rt: &impl Abort, text: String, expected: &str) -> Result<(), Fail> {
-    assert_eq!(rt; text.as_str(), expected);
+// Holds what a step answered against what it has to; a failure says which step it was.
+fn answers(rt: &impl Abort, step: usize, text: String, expected: &str) -> Result<(), Fail> {
+    assert_eq!(rt; text.as_str(), expected, "step {step}");
     Ok(())
 }
 
@@ -70,6 +71,7 @@ fn take_step<R: Rule>(
     rule: &R,
     step: Step,
     heap: Global,
+    place: usize,
 ) -> Result<(), Fail> {
     match step {
         Step::Lend(points, opened, kept, scratch) => lent.lend(points, opened, kept, scratch),
@@ -80,27 +82,30 @@ fn take_step<R: Rule>(
                 Ok(()) => Ok("made"),
                 Err(refusal) => Err(refusal),
             };
-            answers(rt, said(made, heap)?, text)
+            answers(rt, place, said(made, heap)?, text)
         }
         Step::Start(number, text) => answers(
             rt,
+            place,
             said(lent.start(rt, design, number)?, heap)?,
             text,
         ),
         Step::Walk(budget, text) => {
             answers(
                 rt,
+                place,
                 walk_said(lent.walk(rt, design, rule, budget)?, heap)?,
                 text,
             )
         }
-        Step::Peak(text) => answers(rt, said(lent.peak(rt, design)?, heap)?, text),
+        Step::Peak(text) => answers(rt, place, said(lent.peak(rt, design)?, heap)?, text),
         Step::Window(width, text) => answers(
             rt,
+            place,
             said(lent.window(rt, design, width)?, heap)?,
             text,
         ),
-        Step::List(text) => answers(rt, listing(lent, heap)?, text),
+        Step::List(text) => answers(rt, place, listing(lent, heap)?, text),
     }
 }
 
@@ -113,8 +118,8 @@ pub(crate) fn follow<R: Rule>(
     steps: &[Step],
     heap: Global,
 ) -> Result<(), Fail> {
-    for step in steps {
-        take_step(rt, lent, design, rule, *step, heap)?;
+    for (place, step) in steps.iter().enumerate() {
+        take_step(rt, lent, design, rule, *step, heap, place)?;
     }
     Ok(())
 }

@@ -1,5 +1,5 @@
 use crate::lent::{Lent, read};
-use crate::steps::{Step, answers, follow, listing};
+use crate::steps::{Step, follow, listing};
 use crate::tags::{
     RAM, RAM_EAGER, RAM_PLAIN, RAM_WORDS_EAGER, RAM_WORDS_PLAIN, REGISTER, TOGGLING,
 };
@@ -407,7 +407,8 @@ fn lists<R: Rule>(
     let text = format!(in heap;
         "points {points} open {open} peak {peak} power {power} window {window} energy {energy}\n{lines}"
     )?;
-    answers(rt, text, expected)
+    assert_eq!(rt; text.as_str(), expected);
+    Ok(())
 }
 
 #[test]

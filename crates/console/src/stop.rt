@@ -1,3 +1,7 @@
+ghost use Rattle.std.specs.Prelude.{◌≡◌, if◌then◌else◌, true, IsOk, IsErr, IfOk, IfErr, is_ok};
+ghost use Rattle.std.specs.Process.{exit_status};
+ghost use Rattle.console.specs.Ending.{is_failed};
+
 use bundle::Refusal;
 use std::alloc::AllocError;
 use std::io;
@@ -29,7 +33,11 @@ impl From<AllocError> for Stop {
 }
 
 // How a program ends: a refusal is printed as one line, what failed outside is reported, and either ends it with status 1.
-pub fn finish(rt: &HostRuntime, res: Result<(), Stop>) -> anyhow::Result<ExitCode> {
+pub fn finish(rt: &HostRuntime, res: Result<(), Stop>) -> anyhow::Result<ExitCode>
+    ensures done { IsOk res → IsOk result }
+    ensures failed { IfErr res (λ stop. is_failed stop ≡ true → IsErr result) }
+    ensures status { IfOk result (λ code. exit_status code ≡ (if is_ok res then 0 else 1)) }
+{
     match res {
         Ok(()) => Ok(ExitCode::SUCCESS),
         Err(Stop::Refused(refusal)) => {
