@@ -1,75 +1,142 @@
 // What the library and the slow simulator answer, in one form.
-use explore::Ending;
+ghost use Rattle.std.specs.Prelude.{◌≡◌};
+ghost use Rattle.beside.specs.Answer.{refusal_of, answered_of};
+
+use explore::Figures;
 use levels::Tri;
 use record::{Fate, Origin};
 use slow::Level;
-use slow_tag::{Refusal, Stop};
+use std::alloc::AllocError;
 
-// A value, a peak with a window, the points that a walk took with its ending, or a refusal. An ending that is no refusal has layer 0.
+// A refusal: the number of the question, its layer, and the place of what is wrong.
+#[derive(Clone, Copy, PartialEq, Eq, Debug)]
+pub struct Refusal {
+    // Why numbers: the two sides share no enum, and what is compared is what a caller sees.
+    pub number: u8,
+    pub layer: u8,
+    pub place: usize,
+}
+
+impl From<bundle::Refusal> for Refusal {
+    fn from(refusal: bundle::Refusal) -> Refusal {
+        Refusal {
+            number: refusal.number(),
+            layer: refusal.layer(),
+            place: refusal.place,
+        }
+    }
+}
+
+impl From<slow_tag::Refusal> for Refusal {
+    fn from(refusal: slow_tag::Refusal) -> Refusal {
+        Refusal {
+            number: refusal.question.number(),
+            layer: refusal.question.layer(),
+            place: refusal.place,
+        }
+    }
+}
+
+// How a walk ends: its budget is spent, no point is open, or one is refused.
+#[derive(Clone, Copy, PartialEq, Eq, Debug)]
+pub enum Ending {
+    Spent,
+    Done,
+    Refused(Refusal),
+}
+
+impl From<explore::Ending> for Ending {
+    fn from(ending: explore::Ending) -> Ending {
+        match ending {
+            explore::Ending::Spent => Ending::Spent,
+            explore::Ending::Done => Ending::Done,
+            explore::Ending::Refused(refusal) => Ending::Refused(refusal.into()),
+        }
+    }
+}
+
+impl From<slow::Ending> for Ending {
+    fn from(ending: slow::Ending) -> Ending {
+        match ending {
+            slow::Ending::Spent => Ending::Spent,
+            slow::Ending::Done => Ending::Done,
+            slow::Ending::Refused(refusal) => Ending::Refused(refusal.into()),
+        }
+    }
+}
+
+// A value, a peak with a window, the points that a walk took with its ending, or a refusal.
 #[derive(Clone, Copy, PartialEq, Debug)]
 pub enum Answer {
     Value(u64),
     Figures(u32, u64),
-    Walked(usize, Refusal),
+    Walked(usize, Ending),
     Refused(Refusal),
 }
 
-// The library's refusal as the slow simulator has it.
-pub fn refusal_of(refusal: bundle::Refusal) -> Refusal {
-    Refusal {
-        number: refusal.number(),
-        layer: refusal.layer(),
-        place: refusal.place,
+impl Answer {
+    // The refusal of a question, or of a point in a walk.
+    pub fn refusal(self) -> Option<Refusal>
+        ensures { result ≡ refusal_of self }
+    {
+        match self {
+            Answer::Refused(refusal) | Answer::Walked(_, Ending::Refused(refusal)) => Some(refusal),
+            Answer::Value(_) | Answer::Figures(_, _) | Answer::Walked(_, _) => None,
+        }
     }
 }
 
-// An ending that is no refusal.
-fn plain_ending(number: u8) -> Refusal {
-    Refusal {
-        number,
-        layer: 0,
-        place: 0,
+impl From<slow_tag::Refusal> for Answer {
+    fn from(refusal: slow_tag::Refusal) -> Answer {
+        Answer::Refused(refusal.into())
     }
 }
 
-// What the library's walk answers.
-pub(crate) fn walked(answer: (usize, Ending)) -> Answer {
-    let (count, ending) = answer;
-    match ending {
-        Ending::Spent => Answer::Walked(count, plain_ending(0)),
-        Ending::Done => Answer::Walked(count, plain_ending(255)),
-        Ending::Refused(refusal) => Answer::Walked(count, refusal_of(refusal)),
+impl From<u64> for Answer {
+    fn from(value: u64) -> Answer {
+        Answer::Value(value)
     }
 }
 
-// What the slow simulator's walk answers.
-pub(crate) fn slow_walked(answer: (usize, slow::Ending)) -> Answer {
-    let (count, ending) = answer;
-    match ending {
-        slow::Ending::Spent => Answer::Walked(count, plain_ending(0)),
-        slow::Ending::Done => Answer::Walked(count, plain_ending(255)),
-        slow::Ending::Refused(refusal) => Answer::Walked(count, refusal),
+impl From<Figures> for Answer {
+    fn from(figures: Figures) -> Answer {
+        Answer::Figures(figures.peak, figures.window)
     }
 }
 
-// What a call of the library answers, by its value.
-pub(crate) fn answered(answer: Result<u64, bundle::Refusal>) -> Answer {
-    match answer {
-        Ok(value) => Answer::Value(value),
-        Err(refusal) => Answer::Refused(refusal_of(refusal)),
+// What a call answers.
+impl<T: Into<Answer>, E: Into<Refusal>> From<Result<T, E>> for Answer {
+    fn from(answer: Result<T, E>) -> Answer {
+        match answer {
+            Ok(value) => value.into(),
+            Err(refusal) => Answer::Refused(refusal.into()),
+        }
+    }
+}
+
+// What a walk answers.
+impl<E: Into<Ending>> From<(usize, E)> for Answer {
+    fn from(answer: (usize, E)) -> Answer {
+        let (count, ending) = answer;
+        Answer::Walked(count, ending.into())
     }
 }
 
 // What the slow simulator answers, if it has memory.
-pub(crate) fn slow_answered(answer: Result<u64, Stop>) -> Option<Answer> {
+pub fn answered<T>(
+    answer: Result<T, slow_tag::Stop>,
+) -> Result<Result<T, slow_tag::Refusal>, AllocError>
+    ensures { result ≡ answered_of answer }
+{
     match answer {
-        Ok(value) => Some(Answer::Value(value)),
-        Err(Stop::Refused(refusal)) => Some(Answer::Refused(refusal)),
-        Err(Stop::Memory) => None,
+        Ok(value) => Ok(Ok(value)),
+        Err(slow_tag::Stop::Refused(refusal)) => Ok(Err(refusal)),
+        Err(slow_tag::Stop::Memory(error)) => Err(error),
     }
 }
 
 // A point of the library's record as the slow simulator has it.
+// Why no From: neither type is of this crate. The same holds of a level.
 pub(crate) fn point_of(point: &record::Point) -> slow::Point {
     slow::Point {
         origin: match point.origin {

@@ -3,12 +3,16 @@
 
 mod answer;
 mod bench;
+mod memory;
 mod pair;
+mod rule;
 mod stop;
 mod tally;
 
-pub use answer::{Answer, refusal_of};
+pub use answer::{Answer, Ending, Refusal, answered};
 pub use bench::Bench;
-pub use pair::Pair;
-pub use stop::{Stop, agree, agree_on};
-pub use tally::{Count, Tally};
+pub use memory::{Lengths, Memory, Part, Rows};
+pub use pair::{Pair, Taken};
+pub use rule::Rule;
+pub use stop::{Difference, Stop};
+pub use tally::{Case, Count, Tally};

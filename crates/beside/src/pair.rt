@@ -1,13 +1,23 @@
 // An exploration by the library and one by the slow simulator, side by side.
-use crate::answer::{Answer, level_of, point_of, slow_answered, slow_walked};
+use crate::answer::{Answer, Ending, answered, level_of, point_of};
 use crate::bench::Bench;
-use crate::stop::{Stop, agree, agree_on};
-use crate::tally::Tally;
+use crate::memory::Rows;
+use crate::rule::Rule;
+use crate::stop::Stop;
+use crate::tally::{Case, Tally};
 use design::Design;
+use explore::Figures;
 use levels::Tri;
-use slow::{Base, Level, Record};
-use slow_tag::{Tag, refuse};
-use std::alloc::Global;
+use slow::{Level, Record};
+use slow_tag::{Question, Tag, refuse};
+use std::alloc::{AllocError, Global};
+
+// A start that was taken, and its point.
+#[derive(Clone, Copy)]
+pub struct Taken {
+    pub start: usize,
+    pub point: usize,
+}
 
 // Both, with the tag that they explore as each has read it.
 #[derive(Drop)]
@@ -16,231 +26,171 @@ pub struct Pair<'a> {
     pub tag: &'a Tag,
     pub bench: Bench,
     pub record: Record,
-    // The starts taken, each with its point.
-    pub starts: Vec<(usize, usize)>,
+    pub starts: Vec<Taken>,
     // Whether the last walk was refused.
     pub refused: bool,
+    pub heap: Global,
 }
 
 // Are these levels, from a place on, those of a state?
 fn is_state(levels: &[Tri], first: usize, state: &[Level]) -> bool {
-    for (place, level) in state.iter().enumerate() {
-        match levels.get(first.saturating_add(place)) {
-            Some(other) if level_of(*other) == *level => {}
-            _ => return false,
-        }
-    }
-    true
-}
-
-// One of the five rules, as the slow simulator has it.
-pub(crate) fn slow_rule(rule: usize) -> slow::Rule {
-    match rule {
-        0 => slow::Rule {
-            base: Base::Plain,
-            words: 0,
-        },
-        1 => slow::Rule {
-            base: Base::Eager,
-            words: 0,
-        },
-        2 => slow::Rule {
-            base: Base::Plain,
-            words: 1,
-        },
-        3 => slow::Rule {
-            base: Base::Eager,
-            words: 1,
-        },
-        _ => slow::Rule {
-            base: Base::Eager,
-            words: 2,
-        },
-    }
+    let end = first.saturating_add(state.len());
+    levels.get(first..end).is_some_and(|levels| {
+        levels
+            .iter()
+            .zip(state)
+            .all(|(level, other)| level_of(*level) == *other)
+    })
 }
 
 impl Pair<'_> {
     // Do both records have the same points, in the same number?
     fn same_points(&self) -> bool {
-        if self.bench.exploration.point_count() != self.record.points.len() {
-            return false;
-        }
-        for (number, point) in self.record.points.iter().enumerate() {
-            match self.bench.points.get(number) {
-                Some(other) if point_of(other) == *point => {}
-                _ => return false,
-            }
-        }
-        true
+        let count = self.bench.exploration.point_count();
+        let points = self.bench.memory.points.get(..count).unwrap_or(&[]);
+        points.len() == self.record.points.len()
+            && points
+                .iter()
+                .zip(self.record.points.iter())
+                .all(|(point, other)| point_of(point) == *other)
     }
 
-    // Is each kept state in its entry's stretch, and each open state in one of the first stretches, as many as are open?
-    fn same_states(&self) -> bool {
+    // Is each kept state in its entry's stretch?
+    fn same_kept(&self) -> bool {
         let places = self.tag.places();
-        for entry in 0..self.record.entry_count() {
+        let kept = &self.bench.memory.kept;
+        (0..self.record.entry_count()).all(|entry| {
             let first = entry.saturating_mul(places);
-            if !is_state(&self.bench.kept, first, self.record.kept_state(entry)) {
-                return false;
-            }
-        }
-        for slot in 0..self.record.open_count() {
+            is_state(kept, first, self.record.kept_state(entry))
+        })
+    }
+
+    // Is each open state in one of the first stretches, as many as are open?
+    fn same_opened(&self) -> bool {
+        let places = self.tag.places();
+        let opened = &self.bench.memory.opened;
+        let count = self.record.open_count();
+        let found = (0..count).all(|slot| {
             let state = self.record.open_state(slot);
-            let mut found = false;
-            for stretch in 0..self.record.open_count() {
-                let first = stretch.saturating_mul(places);
-                found = found || is_state(&self.bench.opened, first, state);
-            }
-            if !found {
-                return false;
-            }
-        }
-        self.bench.exploration.open_count() == self.record.open_count()
+            (0..count).any(|stretch| is_state(opened, stretch.saturating_mul(places), state))
+        });
+        found && self.bench.exploration.open_count() == count
     }
 
     // Holds all that is recorded side by side.
-    pub fn compare(&self, tally: &mut Tally, heap: Global) -> Result<(), Stop> {
-        agree(&mut tally.points, self.same_points(), "the record", heap)?;
-        agree(&mut tally.states, self.same_states(), "the states", heap)?;
-        let clear = self.bench.scratch_is_clear();
-        agree(&mut tally.states, clear, "the scratch", heap)
+    pub fn compare(&self, tally: &mut Tally) -> Result<(), Stop> {
+        tally.agree(Case::Points, self.same_points(), "the record")?;
+        let same = self.same_kept() && self.same_opened();
+        tally.agree(Case::States, same, "the states")?;
+        tally.agree(Case::States, self.bench.scratch_is_clear(), "the scratch")
     }
 
     // Takes a start in both.
-    pub fn start(&mut self, number: usize, tally: &mut Tally, heap: Global) -> Result<(), Stop> {
+    pub fn start(&mut self, number: usize, tally: &mut Tally) -> Result<(), Stop> {
         let library = self.bench.start(self.design, number);
-        let slow = match self.record.start(self.tag, number, heap) {
-            Ok(point) => {
-                self.starts.push((number, point))?;
-                Ok(point as u64)
-            }
-            Err(stop) => Err(stop),
-        };
+        let slow = answered(self.record.start(self.tag, number, self.heap))?;
+        if let Ok(point) = slow {
+            self.starts.push(Taken {
+                start: number,
+                point,
+            })?;
+        }
+        let slow = Answer::from(slow.map(|point| point as u64));
         tally.note(library);
-        agree_on(
-            &mut tally.starts,
-            "start",
-            library,
-            slow_answered(slow),
-            heap,
-        )?;
-        self.compare(tally, heap)
+        tally.agree_on(Case::Starts, "start", library, slow)?;
+        self.compare(tally)
     }
 
     // Walks both.
-    pub fn walk(
-        &mut self,
-        rule: usize,
-        budget: u16,
-        tally: &mut Tally,
-        heap: Global,
-    ) -> Result<Answer, Stop> {
+    pub fn walk(&mut self, rule: Rule, budget: u16, tally: &mut Tally) -> Result<Answer, Stop> {
         let library = self.bench.walk(self.design, rule, budget);
-        let walked = self
+        let slow = self
             .record
-            .walk(self.tag, slow_rule(rule), budget as usize, heap)?;
-        let slow = slow_walked(walked);
+            .walk(self.tag, rule.into(), budget as usize, self.heap)?;
         tally.note(library);
         tally.ruled(rule);
         if let Answer::Walked(count, ending) = library {
             tally.taken = tally.taken.saturating_add(count);
-            self.refused = ending.layer != 0;
+            self.refused = matches!(ending, Ending::Refused(_));
         }
-        agree_on(&mut tally.walks, "walk", library, Some(slow), heap)?;
-        self.compare(tally, heap)?;
+        tally.agree_on(Case::Walks, "walk", library, slow.into())?;
+        self.compare(tally)?;
         Ok(library)
     }
 
     // The peak of both.
-    pub fn peak(&mut self, tally: &mut Tally, heap: Global) -> Result<Answer, Stop> {
+    pub fn peak(&mut self, tally: &mut Tally) -> Result<Answer, Stop> {
         let library = self.bench.peak(self.design);
-        let slow = match self.record.peak() {
-            Ok(charge) => Ok(u64::from(charge)),
-            Err(stop) => Err(stop),
-        };
+        let slow = Answer::from(self.record.peak().map(u64::from));
         tally.note(library);
-        agree_on(&mut tally.peaks, "peak", library, slow_answered(slow), heap)?;
-        self.compare(tally, heap)?;
+        tally.agree_on(Case::Peaks, "peak", library, slow)?;
+        self.compare(tally)?;
         Ok(library)
     }
 
+    // Rows that have `more` places than points in use.
+    fn rows(&self, more: usize) -> Result<Rows, AllocError> {
+        let length = self.record.points.len().saturating_add(more);
+        Rows::new(length, length, self.heap)
+    }
+
     // The window of both, over rows that have `more` places than points in use.
-    pub fn window(
-        &mut self,
-        width: u16,
-        more: usize,
-        tally: &mut Tally,
-        heap: Global,
-    ) -> Result<Answer, Stop> {
-        let rows = self.record.points.len().saturating_add(more);
-        let (library, cleared) = self.bench.window(self.design, width, (rows, rows), heap)?;
-        let slow = slow_answered(self.record.window(width as usize, heap));
+    pub fn window(&mut self, width: u16, more: usize, tally: &mut Tally) -> Result<Answer, Stop> {
+        let mut rows = self.rows(more)?;
+        let library = self.bench.window(self.design, width, &mut rows);
+        let slow = answered(self.record.window(width as usize, self.heap))?;
         tally.note(library);
-        agree_on(&mut tally.windows, "window", library, slow, heap)?;
-        agree(&mut tally.windows, cleared, "the rows", heap)?;
+        tally.agree_on(Case::Windows, "window", library, slow.into())?;
+        tally.agree(Case::Windows, rows.are_clear(), "the rows")?;
         if width <= 4 {
-            self.window_by_paths(width, library, tally, heap)?;
+            self.window_by_paths(width, library, tally)?;
         }
-        self.compare(tally, heap)?;
+        self.compare(tally)?;
         Ok(library)
     }
 
     // Peak and window of both together.
-    pub fn figures(&mut self, width: u16, tally: &mut Tally, heap: Global) -> Result<(), Stop> {
-        let rows = self.record.points.len();
-        let library = self.bench.figures(self.design, width, rows, heap)?;
-        let window = self.record.window(width as usize, heap);
-        let slow = match window {
-            Ok(window) => match self.record.peak() {
-                Ok(peak) => Some(Answer::Figures(peak, window)),
-                Err(stop) => slow_answered(Err(stop)),
-            },
-            Err(stop) => slow_answered(Err(stop)),
-        };
-        agree_on(&mut tally.figures, "peak and window", library, slow, heap)?;
-        self.compare(tally, heap)
+    pub fn figures(&mut self, width: u16, tally: &mut Tally) -> Result<(), Stop> {
+        let mut rows = self.rows(0)?;
+        let library = self.bench.figures(self.design, width, &mut rows);
+        let window = answered(self.record.window(width as usize, self.heap))?;
+        let slow = window.and_then(|window| {
+            Ok(Figures {
+                peak: self.record.peak()?,
+                window,
+            })
+        });
+        tally.agree_on(Case::Figures, "peak and window", library, slow.into())?;
+        self.compare(tally)
     }
 
-    // The same window by going through all paths.
-    fn window_by_paths(
-        &self,
-        width: u16,
-        library: Answer,
-        tally: &mut Tally,
-        heap: Global,
-    ) -> Result<(), Stop> {
-        let slow = match self.record.window_by_paths(width as usize, 400, heap) {
-            Ok(Some(sum)) => Ok(sum),
-            Ok(None) => return Ok(()),
-            Err(stop) => Err(stop),
-        };
-        agree_on(
-            &mut tally.by_paths,
-            "window by paths",
-            library,
-            slow_answered(slow),
-            heap,
-        )
+    // The same window by going through all paths, if they are not too many.
+    fn window_by_paths(&self, width: u16, library: Answer, tally: &mut Tally) -> Result<(), Stop> {
+        let sum = self.record.window_by_paths(width as usize, 400, self.heap);
+        match answered(sum)?.transpose() {
+            Some(slow) => tally.agree_on(
+                Case::WindowsByPaths,
+                "window by paths",
+                library,
+                slow.into(),
+            ),
+            None => Ok(()),
+        }
     }
 
     // Asks the library with memory that is not as long as at the making: every call is refused.
-    pub fn ask_all(&mut self, tally: &mut Tally, heap: Global) -> Result<(), Stop> {
-        let memory = Some(Answer::Refused(refuse(13, 0)));
-        let rows = self.record.points.len();
+    pub fn ask_all(&mut self, tally: &mut Tally) -> Result<(), Stop> {
+        let memory = refuse(Question::Memory, 0);
+        let mut rows = self.rows(0)?;
         let started = self.bench.start(self.design, 0);
-        let walked = self.bench.walk(self.design, 0, 5);
+        let walked = self.bench.walk(self.design, Rule::Plain, 5);
         let peak = self.bench.peak(self.design);
-        let (window, _) = self.bench.window(self.design, 2, (rows, rows), heap)?;
+        let window = self.bench.window(self.design, 2, &mut rows);
         for answer in [started, peak, window] {
             tally.note(answer);
-            agree_on(&mut tally.lengths, "a changed length", answer, memory, heap)?;
+            tally.agree_on(Case::Lengths, "a changed length", answer, memory.into())?;
         }
-        let none = Some(Answer::Walked(0, refuse(13, 0)));
-        agree_on(
-            &mut tally.lengths,
-            "a walk at a changed length",
-            walked,
-            none,
-            heap,
-        )
+        let none = Answer::Walked(0, Ending::Refused(memory.into()));
+        tally.agree_on(Case::Lengths, "a walk at a changed length", walked, none)
     }
 }

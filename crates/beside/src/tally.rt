@@ -1,48 +1,86 @@
 // How often each kind of case came up and agreed.
+ghost use Rattle.std.specs.Prelude.{◌≡◌, ◌↔◌, IsTrue, IsOk, slice_set};
+ghost use Rattle.beside.specs.Tally.{counted, count_at, place_of};
+
 use crate::answer::Answer;
+use crate::rule::Rule;
+use crate::stop::{Difference, Stop};
 use slow::Seen;
-use std::io;
+use std::{fmt, io};
+
+// A kind of case.
+#[derive(Clone, Copy)]
+pub enum Case {
+    Makings,
+    Starts,
+    Walks,
+    Points,
+    States,
+    Peaks,
+    Windows,
+    WindowsByPaths,
+    Figures,
+    Plays,
+    PlayedCycles,
+    Runs,
+    RunCycles,
+    Stretches,
+    Bundles,
+    Limits,
+    Lengths,
+    Damaged,
+}
+
+// The kinds of case in their order, each as it is printed.
+const CASES: [(Case, &'static str); 18] = [
+    (Case::Makings, "makings"),
+    (Case::Starts, "starts"),
+    (Case::Walks, "walks"),
+    (Case::Points, "records of points"),
+    (Case::States, "kept and open states"),
+    (Case::Peaks, "peaks"),
+    (Case::Windows, "windows"),
+    (Case::WindowsByPaths, "windows by all paths"),
+    (Case::Figures, "peaks and windows together"),
+    (Case::Plays, "plays"),
+    (Case::PlayedCycles, "played cycles"),
+    (Case::Runs, "runs along paths"),
+    (Case::RunCycles, "cycles of runs within the peak"),
+    (Case::Stretches, "stretches of runs within the window"),
+    (Case::Bundles, "changed bundles"),
+    (Case::Limits, "tags at their limits"),
+    (Case::Lengths, "calls with other lengths"),
+    (Case::Damaged, "damaged records"),
+];
 
 // How often something was compared, and how often it agreed.
-#[derive(Clone, Copy)]
+#[derive(Clone, Copy, Default)]
 pub struct Count {
     pub tried: usize,
     pub agreed: usize,
 }
 
 impl Count {
-    const NONE: Count = Count {
-        tried: 0,
-        agreed: 0,
-    };
-
-    pub fn add(&mut self, agreed: bool) {
+    pub fn add(&mut self, agreed: bool)
+        ensures { self.new ≡ counted self.old agreed }
+    {
         self.tried = self.tried.saturating_add(1);
-        self.agreed = self.agreed.saturating_add(agreed as usize);
+        if agreed {
+            self.agreed = self.agreed.saturating_add(1);
+        }
     }
 }
 
-#[derive(Clone, Copy)]
+impl fmt::Display for Count {
+    fn fmt<W: fmt::Write>(&self, f: &mut fmt::Formatter<W>) -> fmt::Result {
+        let (tried, agreed) = (self.tried, self.agreed);
+        write!(f, "{tried} agreed {agreed}")
+    }
+}
+
+#[derive(Clone, Copy, Default)]
 pub struct Tally {
     pub tags: usize,
-    pub makes: Count,
-    pub starts: Count,
-    pub walks: Count,
-    pub points: Count,
-    pub states: Count,
-    pub peaks: Count,
-    pub windows: Count,
-    pub by_paths: Count,
-    pub figures: Count,
-    pub plays: Count,
-    pub cycles: Count,
-    pub runs: Count,
-    pub run_cycles: Count,
-    pub stretches: Count,
-    pub bundles: Count,
-    pub limits: Count,
-    pub lengths: Count,
-    pub damaged: Count,
     pub taken: usize,
     pub merges: usize,
     pub splits: usize,
@@ -50,60 +88,70 @@ pub struct Tally {
     pub addresses: usize,
     pub cuts: usize,
     pub halts: usize,
-    pub rules: [usize; 5],
+    cases: [Count; 18],
+    rules: [usize; 5],
     // By the number of a refusal.
-    pub refusals: [usize; 23],
+    refusals: [usize; 23],
 }
 
 impl Tally {
-    pub fn new() -> Tally {
-        Tally {
-            tags: 0,
-            makes: Count::NONE,
-            starts: Count::NONE,
-            walks: Count::NONE,
-            points: Count::NONE,
-            states: Count::NONE,
-            peaks: Count::NONE,
-            windows: Count::NONE,
-            by_paths: Count::NONE,
-            figures: Count::NONE,
-            plays: Count::NONE,
-            cycles: Count::NONE,
-            runs: Count::NONE,
-            run_cycles: Count::NONE,
-            stretches: Count::NONE,
-            bundles: Count::NONE,
-            limits: Count::NONE,
-            lengths: Count::NONE,
-            damaged: Count::NONE,
-            taken: 0,
-            merges: 0,
-            splits: 0,
-            enables: 0,
-            addresses: 0,
-            cuts: 0,
-            halts: 0,
-            rules: [0; 5],
-            refusals: [0; 23],
+    // Counts a case.
+    pub fn count(&mut self, case: Case, agreed: bool)
+        ensures { self.new.cases ≡ slice_set self.old.cases (place_of case) (counted (count_at self.old.cases (place_of case)) agreed) }
+    {
+        self.cases[case as usize].add(agreed);
+    }
+
+    fn hold(&mut self, case: Case, same: bool, difference: Difference) -> Result<(), Stop>
+        ensures { IsOk result ↔ IsTrue same }
+    {
+        self.count(case, same);
+        if same {
+            Ok(())
+        } else {
+            Err(Stop::Differs(difference))
         }
+    }
+
+    // Counts a fact that is to hold, and stops if it does not.
+    pub fn agree(&mut self, case: Case, same: bool, what: &'static str) -> Result<(), Stop>
+        ensures { IsOk result ↔ IsTrue same }
+    {
+        self.hold(case, same, Difference::Fact(what))
+    }
+
+    // Counts two answers, and stops if they differ.
+    pub fn agree_on(
+        &mut self,
+        case: Case,
+        what: &'static str,
+        library: Answer,
+        slow: Answer,
+    ) -> Result<(), Stop>
+        ensures { IsOk result → library ≡ slow }
+    {
+        self.hold(
+            case,
+            library == slow,
+            Difference::Answers {
+                what,
+                library,
+                slow,
+            },
+        )
     }
 
     // Counts a refusal.
     pub fn refused(&mut self, number: u8) {
-        let place = number as usize;
-        if place < self.refusals.len() {
-            self.refusals[place] = self.refusals[place].saturating_add(1);
+        if let Some(count) = self.refusals.get_mut(number as usize) {
+            *count = count.saturating_add(1);
         }
     }
 
     // Counts an answer's refusal, if it is one.
     pub fn note(&mut self, answer: Answer) {
-        match answer {
-            Answer::Value(_) | Answer::Figures(_, _) => {}
-            Answer::Walked(_, ending) if ending.layer == 0 => {}
-            Answer::Walked(_, ending) => self.refused(ending.number),
-            Answer::Refused(refusal) => self.refused(refusal.number),
+        if let Some(refusal) = answer.refusal() {
+            self.refused(refusal.number);
         }
     }
 
@@ -116,44 +164,24 @@ impl Tally {
     }
 
     // Counts a walk under a rule.
-    pub fn ruled(&mut self, rule: usize) {
-        if rule < self.rules.len() {
-            self.rules[rule] = self.rules[rule].saturating_add(1);
-        }
+    pub fn ruled(&mut self, rule: Rule) {
+        let count = &mut self.rules[rule as usize];
+        *count = count.saturating_add(1);
     }
 
     // Prints a line for each kind of case.
-    pub fn print(&self, rt: &HostRuntime) -> io::Result<()> {
+    pub fn print(&self, rt: &impl Print) -> io::Result<()> {
         let tags = self.tags;
         println!(rt; "tags {tags}")?;
-        for (name, count) in [
-            ("makings", self.makes),
-            ("starts", self.starts),
-            ("walks", self.walks),
-            ("records of points", self.points),
-            ("kept and open states", self.states),
-            ("peaks", self.peaks),
-            ("windows", self.windows),
-            ("windows by all paths", self.by_paths),
-            ("peaks and windows together", self.figures),
-            ("plays", self.plays),
-            ("played cycles", self.cycles),
-            ("runs along paths", self.runs),
-            ("cycles of runs within the peak", self.run_cycles),
-            ("stretches of runs within the window", self.stretches),
-            ("changed bundles", self.bundles),
-            ("tags at their limits", self.limits),
-            ("calls with other lengths", self.lengths),
-            ("damaged records", self.damaged),
-        ] {
-            let (tried, agreed) = (count.tried, count.agreed);
-            println!(rt; "{name} {tried} agreed {agreed}")?;
+        for (case, name) in CASES {
+            let count = self.cases[case as usize];
+            println!(rt; "{name} {count}")?;
         }
         self.print_kinds(rt)
     }
 
     // Prints how often points were taken, merged, cut and halted, and how often there was each refusal.
-    fn print_kinds(&self, rt: &HostRuntime) -> io::Result<()> {
+    fn print_kinds(&self, rt: &impl Print) -> io::Result<()> {
         let (taken, merges) = (self.taken, self.merges);
         let (cuts, halts) = (self.cuts, self.halts);
         println!(rt; "taken {taken} merges {merges} cuts {cuts} halts {halts}")?;
@@ -166,10 +194,8 @@ impl Tally {
             "walks by rule: plain {plain}, eager {eager}, whole words over plain {words}, over eager {eager_words}, over whole words over eager {twice}"
         )?;
         print!(rt; "refusals")?;
-        for (number, count) in self.refusals.iter().enumerate() {
-            if 0 < number {
-                print!(rt; " {number}: {count}")?;
-            }
+        for (number, count) in self.refusals.iter().enumerate().skip(1) {
+            print!(rt; " {number}: {count}")?;
         }
         println!(rt)
     }

@@ -2,6 +2,7 @@ use bundle::Refusal;
 use decode::read_design;
 use design::Design;
 use explore::{Ending, Exploration, Figures};
+use figures::Rows;
 use levels::Tri;
 use record::{Fate, Origin, Point};
 use rules::Rule;
@@ -17,18 +18,56 @@ const NO_POINT: Point = Point {
     fate: Fate::Cut { to: 65535 },
 };
 
-// An exploration, the memory lent to it, and two rows. Each method makes the call of its name with scratch and rows that hold
+// The memory lent to an exploration, but for scratch.
+#[derive(Drop)]
+pub(crate) struct Memory {
+    pub(crate) points: Vec<Point>,
+    opened: Vec<Tri>,
+    kept: Vec<Tri>,
+}
+
+// Two rows lent for a window.
+#[derive(Drop)]
+struct Sums {
+    row: Vec<u64>,
+    other: Vec<u64>,
+}
+
+// An exploration, the memory and the scratch lent to it, and two rows. Each method makes the call of its name with scratch and rows that hold
 // something else than the call leaves, and checks what it leaves: scratch all X, rows all 0, and all else as it was if it is refused.
 // A walk refused midway leaves what a walk does that takes only the points before.
 #[derive(Drop)]
 pub(crate) struct Lent {
     pub(crate) exploration: Exploration,
-    pub(crate) points: Vec<Point>,
-    pub(crate) opened: Vec<Tri>,
-    pub(crate) kept: Vec<Tri>,
-    pub(crate) scratch: Vec<Tri>,
-    pub(crate) row: Vec<u64>,
-    pub(crate) other: Vec<u64>,
+    pub(crate) memory: Memory,
+    scratch: Vec<Tri>,
+    sums: Sums,
+}
+
+impl Memory {
+    fn copy(&self) -> Result<Memory, Fail> {
+        Ok(Memory {
+            points: self.points.clone()?,
+            opened: self.opened.clone()?,
+            kept: self.kept.clone()?,
+        })
+    }
+}
+
+impl Sums {
+    fn rows(&mut self) -> Rows<'_> {
+        Rows {
+            row: &mut self.row,
+            other: &mut self.other,
+        }
+    }
+
+    fn copy(&self) -> Result<Sums, Fail> {
+        Ok(Sums {
+            row: self.row.clone()?,
+            other: self.other.clone()?,
+        })
+    }
 }
 
 pub(crate) fn read(rt: &impl Abort, bytes: &[u8]) -> Result<Design, Fail> {
@@ -42,12 +81,16 @@ impl Lent {
     pub(crate) fn new(heap: Global) -> Lent {
         Lent {
             exploration: Exploration::new(),
-            points: Vec::new(heap),
-            opened: Vec::new(heap),
-            kept: Vec::new(heap),
+            memory: Memory {
+                points: Vec::new(heap),
+                opened: Vec::new(heap),
+                kept: Vec::new(heap),
+            },
             scratch: Vec::new(heap),
-            row: Vec::new(heap),
-            other: Vec::new(heap),
+            sums: Sums {
+                row: Vec::new(heap),
+                other: Vec::new(heap),
+            },
         }
     }
 
@@ -59,23 +102,23 @@ impl Lent {
         kept: usize,
         scratch: usize,
     ) -> Result<(), Fail> {
-        self.points.resize(points, NO_POINT)?;
-        self.opened.resize(opened, Tri::One)?;
-        self.kept.resize(kept, Tri::Zero)?;
+        self.memory.points.resize(points, NO_POINT)?;
+        self.memory.opened.resize(opened, Tri::One)?;
+        self.memory.kept.resize(kept, Tri::Zero)?;
         self.scratch.resize(scratch, Tri::One)?;
         self.lend_rows(points, points)
     }
 
     // Lends rows of these lengths from here on.
     pub(crate) fn lend_rows(&mut self, row: usize, other: usize) -> Result<(), Fail> {
-        self.row.resize(row, 7)?;
-        self.other.resize(other, 7)?;
+        self.sums.row.resize(row, 7)?;
+        self.sums.other.resize(other, 7)?;
         Ok(())
     }
 
     // Overwrites a record.
     pub(crate) fn write(&mut self, number: usize, origin: Origin, fate: Fate) -> Result<(), Fail> {
-        let Some(point) = self.points.get_mut(number) else {
+        let Some(point) = self.memory.points.get_mut(number) else {
             return Err(Fail::new("no such point"));
         };
         point.origin = origin;
@@ -86,44 +129,40 @@ impl Lent {
     fn copy(&self) -> Result<Lent, Fail> {
         Ok(Lent {
             exploration: self.exploration,
-            points: self.points.clone()?,
-            opened: self.opened.clone()?,
-            kept: self.kept.clone()?,
+            memory: self.memory.copy()?,
             scratch: self.scratch.clone()?,
-            row: self.row.clone()?,
-            other: self.other.clone()?,
+            sums: self.sums.copy()?,
         })
     }
 
     // Are the points, the open states and the kept states those of the other, and as many in use?
     pub(crate) fn equals(&self, other: &Lent) -> bool {
-        self.points == other.points
-            && self.opened == other.opened
-            && self.kept == other.kept
+        self.memory.points == other.memory.points
+            && self.memory.opened == other.memory.opened
+            && self.memory.kept == other.memory.kept
             && self.exploration.point_count() == other.exploration.point_count()
             && self.exploration.open_count() == other.exploration.open_count()
     }
 
     fn spoil(&mut self) {
         self.scratch.fill(Tri::One);
-        self.row.fill(7);
-        self.other.fill(7);
+        self.sums.row.fill(7);
+        self.sums.other.fill(7);
     }
 
     fn scratch_is_cleared(&self, rt: &impl Abort) -> Result<(), Fail> {
-        for level in self.scratch.iter() {
-            assert!(rt; *level == Tri::X);
-        }
+        assert!(rt; self.scratch.iter().all(|level| *level == Tri::X));
         Ok(())
     }
 
     fn rows_are_cleared(&self, rt: &impl Abort) -> Result<(), Fail> {
-        for value in self.row.iter() {
-            assert_eq!(rt; *value, 0);
-        }
-        for value in self.other.iter() {
-            assert_eq!(rt; *value, 0);
-        }
+        assert!(rt;
+            self.sums
+                .row
+                .iter()
+                .chain(self.sums.other.iter())
+                .all(|value| *value == 0)
+        );
         Ok(())
     }
 
@@ -136,9 +175,9 @@ impl Lent {
         self.spoil();
         let answer = self.exploration.make(
             design,
-            &self.points,
-            &self.opened,
-            &self.kept,
+            &self.memory.points,
+            &self.memory.opened,
+            &self.memory.kept,
             &mut self.scratch,
         );
         self.scratch_is_cleared(rt)?;
@@ -159,9 +198,9 @@ impl Lent {
         let answer = self.exploration.start(
             design,
             number,
-            &mut self.points,
-            &mut self.opened,
-            &self.kept,
+            &mut self.memory.points,
+            &mut self.memory.opened,
+            &self.memory.kept,
             &mut self.scratch,
         );
         self.scratch_is_cleared(rt)?;
@@ -184,13 +223,13 @@ impl Lent {
             design,
             rule,
             budget,
-            &mut self.points,
-            &mut self.opened,
-            &mut self.kept,
+            &mut self.memory.points,
+            &mut self.memory.opened,
+            &mut self.memory.kept,
             &mut self.scratch,
         );
         self.scratch_is_cleared(rt)?;
-        if ending != Ending::Spent && ending != Ending::Done {
+        if let Ending::Refused(_) = ending {
             before.take(rt, design, rule, taken)?;
             assert!(rt; self.equals(&before));
         }
@@ -206,13 +245,14 @@ impl Lent {
         count: usize,
     ) -> Result<(), Fail> {
         if count != 0 {
+            let budget = u16::try_from(count)?;
             let answer = self.exploration.walk(
                 design,
                 rule,
-                u16::try_from(count)?,
-                &mut self.points,
-                &mut self.opened,
-                &mut self.kept,
+                budget,
+                &mut self.memory.points,
+                &mut self.memory.opened,
+                &mut self.memory.kept,
                 &mut self.scratch,
             );
             assert_eq!(rt; answer, (count, Ending::Spent));
@@ -228,9 +268,9 @@ impl Lent {
         self.spoil();
         let answer = self.exploration.peak(
             design,
-            &self.points,
-            &self.opened,
-            &self.kept,
+            &self.memory.points,
+            &self.memory.opened,
+            &self.memory.kept,
             &mut self.scratch,
         );
         self.scratch_is_cleared(rt)?;
@@ -249,12 +289,11 @@ impl Lent {
         let answer = self.exploration.window(
             design,
             width,
-            &self.points,
-            &self.opened,
-            &self.kept,
+            &self.memory.points,
+            &self.memory.opened,
+            &self.memory.kept,
             &mut self.scratch,
-            &mut self.row,
-            &mut self.other,
+            &mut self.sums.rows(),
         );
         self.scratch_is_cleared(rt)?;
         self.rows_are_cleared(rt)?;
@@ -278,12 +317,11 @@ impl Lent {
         let answer = self.exploration.figures(
             design,
             width,
-            &self.points,
-            &self.opened,
-            &self.kept,
+            &self.memory.points,
+            &self.memory.opened,
+            &self.memory.kept,
             &mut self.scratch,
-            &mut self.row,
-            &mut self.other,
+            &mut self.sums.rows(),
         );
         self.scratch_is_cleared(rt)?;
         self.rows_are_cleared(rt)?;

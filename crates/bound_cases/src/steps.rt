@@ -45,15 +45,14 @@ fn walk_said(answer: (usize, Ending), heap: Global) -> Result<String, Fail> {
 
 pub(crate) fn listing(lent: &Lent, heap: Global) -> Result<String, Fail> {
     let mut text = String::new(heap);
-    for (number, point) in lent.points.iter().enumerate() {
-        if number < lent.exploration.point_count() {
-            let origin = point.origin;
-            let key = point.key;
-            let charge = point.charge;
-            let fate = point.fate;
-            let line = format!(in heap; "{number} {origin} {key} {charge} {fate}\n")?;
-            text.push_str(&line)?;
-        }
+    let count = lent.exploration.point_count();
+    for (number, point) in lent.memory.points.iter().enumerate().take(count) {
+        let origin = point.origin;
+        let key = point.key;
+        let charge = point.charge;
+        let fate = point.fate;
+        let line = format!(in heap; "{number} {origin} {key} {charge} {fate}\n")?;
+        text.push_str(&line)?;
     }
     Ok(text)
 }
@@ -78,10 +77,7 @@ fn take_step<R: Rule>(
         Step::Rows(row, other) => lent.lend_rows(row, other),
         Step::Write(number, origin, fate) => lent.write(number, origin, fate),
         Step::Make(text) => {
-            let made = match lent.make(rt, design)? {
-                Ok(()) => Ok("made"),
-                Err(refusal) => Err(refusal),
-            };
+            let made = lent.make(rt, design)?.map(|()| "made");
             answers(rt, place, said(made, heap)?, text)
         }
         Step::Start(number, text) => answers(

@@ -1,4 +1,4 @@
-// Bounds what any run of the tag in standard input draws.
+// Bounds what any run of the tag in standard input draws: `bound` once more, which the gate runs here on a second tag.
 #![tactic(auto)]
 
 use std::process::ExitCode;

@@ -1,6 +1,7 @@
 // A tag explored from all of its starts.
 ghost use Rattle.std.specs.Prelude.{◌≡◌, IfOk};
 ghost use Rattle.design.specs.Views.{core};
+ghost use Rattle.figures.specs.Rows.{SameRows};
 ghost use Rattle.explore.specs.Memory.{memory_of, lent_of};
 ghost use Rattle.bounder.specs.Bound.{StartsAll, head_of, Bounds, NoRunDrawsMore};
 
@@ -8,6 +9,7 @@ use crate::head::Head;
 use bundle::Refusal;
 use design::Design;
 use explore::{Ending, Exploration, Figures};
+use figures::Rows;
 use levels::Tri;
 use record::Point;
 use rules::Plain;
@@ -61,14 +63,14 @@ pub fn bound(
     opened: &mut [Tri],
     kept: &mut [Tri],
     scratch: &mut [Tri],
-    row: &mut [u64],
-    other: &mut [u64],
+    rows: &mut Rows,
 ) -> Result<Head, Refusal>
     ensures bounds { Bounds (core design.now) exploration.old
-        (lent_of points.old opened.old kept.old scratch.old) row.old other.old
+        (lent_of points.old opened.old kept.old scratch.old) rows.old.row.now rows.old.other.now
         (memory_of exploration.new points.new opened.new kept.new scratch.new)
-        row.new other.new result }
+        rows.new.row.now rows.new.other.now result }
     ensures no_run_draws_more { IfOk result (NoRunDrawsMore (core design.now)) }
+    ensures same { SameRows rows.old rows.new }
 {
     exploration.make(design, points, opened, kept, scratch)?;
     start_all(design, exploration, points, opened, kept, scratch)?;
@@ -83,8 +85,7 @@ pub fn bound(
         opened,
         kept,
         scratch,
-        row,
-        other,
+        rows,
     )?;
     Ok(head(design, exploration, figures))
 }

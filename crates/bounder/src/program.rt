@@ -1,12 +1,17 @@
 // The program `bound`, but for its `main`.
+ghost use Rattle.std.specs.Prelude.{IfOk};
+ghost use Rattle.decode.specs.Decode.{decoded};
+ghost use Rattle.bounder.specs.Bound.{NoRunDrawsMore};
+
 use crate::bounding::bound;
 use crate::head::{Head, Listed};
 use console::{Stop, finish, first_bytes, places_within};
 use decode::read_design;
 use design::Design;
 use explore::Exploration;
+use figures::Rows;
 use levels::Tri;
-use record::{Fate, Origin, Point};
+use record::Point;
 use std::alloc::Global;
 use std::process::ExitCode;
 
@@ -17,26 +22,24 @@ const MOST_OPEN: usize = 64;
 
 const MOST_ENTRIES: usize = 64;
 
-// What stands in memory that no point was written to.
-const NO_POINT: Point = Point {
-    origin: Origin::Start,
-    key: 0,
-    charge: 0,
-    fate: Fate::Open,
-};
-
 // The head and the points of the exploration of the tag that the bundle stands for.
-fn explore_tag(bytes: &[u8], heap: Global) -> Result<(Head, Vec<Point>), Stop> {
+fn explore_tag(bytes: &[u8], heap: Global) -> Result<(Head, Vec<Point>), Stop>
+    ensures { IfOk result (λ answer. NoRunDrawsMore (decoded bytes.now) answer.0) }
+{
     let mut design = Design::new();
     read_design(&mut design, bytes)?;
     let places = places_within(&design)?;
-    let mut points = vec![in heap; NO_POINT; MOST_POINTS]?;
+    let mut points = vec![in heap; Point::default(); MOST_POINTS]?;
     let mut opened = vec![in heap; Tri::X; MOST_OPEN * places]?;
     let mut kept = vec![in heap; Tri::X; MOST_ENTRIES * places]?;
     let mut scratch = vec![in heap; Tri::X; 2 * places + 1024]?;
     let mut row = vec![in heap; 0; MOST_POINTS]?;
     let mut other = vec![in heap; 0; MOST_POINTS]?;
     let mut exploration = Exploration::new();
+    let mut rows = Rows {
+        row: &mut row,
+        other: &mut other,
+    };
     let head = bound(
         &design,
         &mut exploration,
@@ -44,8 +47,7 @@ fn explore_tag(bytes: &[u8], heap: Global) -> Result<(Head, Vec<Point>), Stop> {
         &mut opened,
         &mut kept,
         &mut scratch,
-        &mut row,
-        &mut other,
+        &mut rows,
     )?;
     points.truncate(head.points);
     Ok((head, points))

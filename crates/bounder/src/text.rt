@@ -11,15 +11,10 @@ impl fmt::Display for Head {
         ++ (codes " power " ++ (decimal x.power ++ (codes " window " ++ (decimal x.window ++ (codes " energy " ++ decimal x.energy))))))))))) };
 
     fn fmt<W: fmt::Write>(&self, f: &mut fmt::Formatter<W>) -> fmt::Result {
-        let points = self.points;
-        let open = self.open;
-        let peak = self.peak;
-        let power = self.power;
-        let window = self.window;
-        let energy = self.energy;
         write!(
             f,
-            "points {points} open {open} peak {peak} power {power} window {window} energy {energy}"
+            "points {} open {} peak {} power {} window {} energy {}",
+            self.points, self.open, self.peak, self.power, self.window, self.energy
         )
     }
 }
@@ -30,11 +25,11 @@ impl fmt::Display for Listed {
         ++ (codes " " ++ (decimal x.point.charge ++ (codes " " ++ fate_text x.point.fate)))))))) };
 
     fn fmt<W: fmt::Write>(&self, f: &mut fmt::Formatter<W>) -> fmt::Result {
-        let number = self.number;
-        let origin = self.point.origin;
-        let key = self.point.key;
-        let charge = self.point.charge;
-        let fate = self.point.fate;
-        write!(f, "{number} {origin} {key} {charge} {fate}")
+        let point = self.point;
+        write!(
+            f,
+            "{} {} {} {} {}",
+            self.number, point.origin, point.key, point.charge, point.fate
+        )
     }
 }

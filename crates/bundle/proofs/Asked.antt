@@ -2,7 +2,8 @@
 use Rattle.std.proofs.Common.{◌≡◌, ℕ, zero, suc, ◌+◌, ◌-◌, ◌<◌, ◌≤◌, Bool, true, false, Some, None, sym, ap, ◌∙◌, subst, ⊎_elim, arith}
 use Rattle.std.proofs.lemmas.Bool.{cond-true, cond-false, cases_eq, cases_Bool}
 use Rattle.bundle.specs.declared.refusal.Fault.{Fault}
-use Rattle.bundle.specs.Format.{refused_at, ask_each}
+use Rattle.bundle.specs.declared.refusal.Refusal.{Refusal}
+use Rattle.bundle.specs.Format.{refused_at, ask_at, ask_each}
 
 module _ (good : ℕ → Bool) (f : Fault) where
   left_good : (i m n : ℕ) → m ≡ n + 1 → good i ≡ true → ask_each good f i m ≡ ask_each good f (i + 1) n
@@ -34,3 +35,15 @@ module _ (good : ℕ → Bool) (f : Fault) where
       (λ b. let was = cond-false (good i) (ask_each good f (i + 1) m) (Some (refused_at f i)) b in
       let z : ◌≡◌ {A = ℕ} 0 1 = cc in absurd (omega arith))
       (cases_Bool (good i))
+
+-- the question put to entry i of n, whose answer is b
+module _ (good : ℕ → Bool) (f : Fault) (i n : ℕ) (l : i < n) where
+  -- not refused: what is left at the next entry gives the answer
+  pub one_more : (b : Bool) → b ≡ good i → None ≡ ask_at b f i → Left good f n i → Left good f n (i + 1)
+  one_more true is e left = asked_more good f i n l (sym is) left
+  one_more false is e left = let z : ◌≡◌ {A = ℕ} 0 1 = cc in absurd (omega arith)
+
+  -- refused: that is the answer
+  pub one_bad : (b : Bool) (r : Refusal) → b ≡ good i → Some r ≡ ask_at b f i → Left good f n i → Some r ≡ ask_each good f 0 n
+  one_bad true r is e left = let z : ◌≡◌ {A = ℕ} 0 1 = cc in absurd (omega arith)
+  one_bad false r is e left = e ∙ sym (asked_bad good f i n l (sym is) left)

@@ -1,36 +1,8 @@
 -- A contents row, read and tested, is as the format says. Assumes nothing.
-use Rattle.std.proofs.Common.{◌≡◌, ℕ, ◌+◌, ◌-◌, ◌*◌, ◌<◌, ◌≤◌, Bool, true, false, cond, not, ◌&&◌, ◌||◌, eqb, List, length, get_or, take, drop, is_some, Some, None, Option, sym, refl, ap, ◌∙◌, ap₂, add-one, arith}
-use Rattle.std.proofs.lemmas.List.{get_or-take, get_or-drop}
-use Rattle.std.proofs.lemmas.Bool.{le-leb, cond-true}
+use Rattle.std.proofs.Common.{◌≡◌, ℕ, ◌+◌, ◌*◌, Bool, true, false, cond, not, ◌&&◌, ◌||◌, eqb, List, length, is_some, Some, None, Option, sym, refl, ap, ◌∙◌, ap₂, add-one, arith}
 use Rattle.bundle.specs.declared.row.Row.{Row}
-use Rattle.bundle.specs.Format.{byte, two_bytes, four_bytes, rows, row_inside, kind_right, row_right, entry_size, part_end, row_placed}
+use Rattle.bundle.specs.Format.{rows, row_inside, kind_right, row_right, entry_size, part_end, row_placed}
 use Rattle.bundle.specs.Contents.{the_row, row_at}
-
--- byte k of a stretch that begins at a
-pub stretch_byte : (bs p : List ℕ) (a e i k : ℕ) → p ≡ take (e - a) (drop a bs) → a + k < e → i ≡ a + k → get_or p k 0 ≡ byte bs i
-stretch_byte bs p a e i k is h at =
-    let l : k < e - a = omega arith in
-    ap (λ (x : List ℕ). get_or x k 0) is ∙ get_or-take (e - a) (drop a bs) k 0 l ∙ get_or-drop a bs k 0 ∙ ap (byte bs) (sym at)
-
-pub row_from_stretch :
-    (bs p : List ℕ) (i a e count offset : ℕ) → a ≡ 18 + 8 * i → e ≡ a + 8 → e ≤ length bs → p ≡ take (e - a) (drop a bs)
-    → count ≡ get_or p 2 0 + get_or p 3 0 * 256
-    → offset ≡ get_or p 4 0 + get_or p 5 0 * 256 + get_or p 6 0 * 65536 + get_or p 7 0 * 16777216
-    → Some (record { kind = get_or p 0 0; zero = get_or p 1 0; count = count; offset = offset }) ≡ row_at bs i
-row_from_stretch bs p i a e count offset first last inside is count-is offset_is =
-    let b0 : get_or p 0 0 ≡ byte bs (18 + 8 * i) = stretch_byte bs p a e _ 0 is (omega arith) (omega arith) in
-    let b1 : get_or p 1 0 ≡ byte bs (18 + 8 * i + 1) = stretch_byte bs p a e _ 1 is (omega arith) (omega arith) in
-    let b2 : get_or p 2 0 ≡ byte bs (18 + 8 * i + 2) = stretch_byte bs p a e _ 2 is (omega arith) (omega arith) in
-    let b3 : get_or p 3 0 ≡ byte bs (18 + 8 * i + 2 + 1) = stretch_byte bs p a e _ 3 is (omega arith) (omega arith) in
-    let b4 : get_or p 4 0 ≡ byte bs (18 + 8 * i + 4) = stretch_byte bs p a e _ 4 is (omega arith) (omega arith) in
-    let b5 : get_or p 5 0 ≡ byte bs (18 + 8 * i + 4 + 1) = stretch_byte bs p a e _ 5 is (omega arith) (omega arith) in
-    let b6 : get_or p 6 0 ≡ byte bs (18 + 8 * i + 4 + 2) = stretch_byte bs p a e _ 6 is (omega arith) (omega arith) in
-    let b7 : get_or p 7 0 ≡ byte bs (18 + 8 * i + 4 + 3) = stretch_byte bs p a e _ 7 is (omega arith) (omega arith) in
-    let c : count ≡ two_bytes bs (18 + 8 * i + 2) = omega arith in
-    let o : offset ≡ four_bytes bs (18 + 8 * i + 4) = omega arith in
-    let row : ◌≡◌ {A = Row} (record { kind = get_or p 0 0; zero = get_or p 1 0; count = count; offset = offset }) (the_row bs i) = cc in
-    let here = le-leb (18 + 8 * i + 8) (length bs) (omega arith) in
-    ap (λ (r : Row). Some r) row ∙ sym (cond-true (row_inside bs i) (Some (the_row bs i)) None here)
 
 pub row_seen : (bs : List ℕ) (i : ℕ) (o : Option Row) (b : Bool) → o ≡ row_at bs i → is_some o ≡ b → row_inside bs i ≡ b
 row_seen bs i o b e s = sym (isSome_cond (row_inside bs i) (the_row bs i)) ∙ sym (ap is_some e) ∙ s

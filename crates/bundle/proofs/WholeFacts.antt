@@ -1,6 +1,6 @@
 -- Bytes that no question refuses: each row lies inside, has its kind, and its body lies inside. Assumes nothing.
-use Rattle.std.proofs.Common.{◌≡◌, ℕ, zero, suc, ◌+◌, ◌-◌, ◌*◌, ◌<◌, ◌≤◌, Bool, true, false, cond, not, ◌&&◌, ◌||◌, eqb, ltb, leb, ◌⊎◌, List, ◌∷◌, length, take, drop, Some, None, Option, refl, ap, ◌∙◌, ap₂, ⊎_elim, add-one, arith}
-use Rattle.std.proofs.lemmas.Bool.{and_parts, and_from, and_left, and_right, lt-ltb, ltb-true, le-leb, lt-leb, leb-true, eqb-true, eq-eqb, cases_lt}
+use Rattle.std.proofs.Common.{◌≡◌, ℕ, zero, suc, ◌+◌, ◌-◌, ◌*◌, ◌<◌, ◌≤◌, Bool, true, false, cond, not, ◌&&◌, ◌||◌, eqb, ltb, ◌⊎◌, List, ◌∷◌, length, take, drop, Some, None, Option, refl, ap, ◌∙◌, ap₂, ⊎_elim, add-one, arith}
+use Rattle.std.proofs.lemmas.Bool.{and_parts, and_from, and_right, lt-ltb, ltb-true, le-leb, lt-leb, leb-true, eqb-true, eq-eqb, cases_lt}
 use Rattle.std.proofs.lemmas.Bool.Decides.{nat_tests}
 use Rattle.bundle.specs.declared.refusal.Fault.{Fault}
 use Rattle.bundle.specs.declared.refusal.Fault.TheVariants as fault
@@ -13,7 +13,7 @@ use Rattle.bundle.specs.Format.{ask, ask_at, first_refusal, header_right, total_
 use Rattle.bundle.specs.Contents.{row_at}
 use Rattle.bundle.specs.Bodies.{bundle_bytes, body_kind, body_bytes, kind_number, has_body, Whole, HandedOut, InOrder}
 use Rattle.bundle.proofs.Asked.{all_good}
-use Rattle.bundle.proofs.RowFacts.{row_end, row_seen, row_found}
+use Rattle.bundle.proofs.RowFacts.{row_end, row_found}
 
 -- where the first no is none, each question is answered yes
 pub none_parts : (o : Option Refusal) (rest : List (Option Refusal)) → first_refusal (o ∷ rest) ≡ None → (o ≡ None) × (first_refusal rest ≡ None)
@@ -90,12 +90,16 @@ body_inside bs i s h = ends_inside bs (rows bs - suc i) i (omega arith) s.placed
 pub right_number : (i kind zero_byte : ℕ) → (kind_right i kind && eqb zero_byte 0) ≡ true → kind_number kind ≡ cond (ltb i 7) (i + 1) 128
 right_number i kind zero_byte e = grind (arith, nat_tests)
 
--- of a whole bundle, what is handed out is in order
-pub in_order : (b : Bundle) (i : ℕ) (o : Option Body) → Whole b → HandedOut b i o → InOrder (bundle_bytes b) i o
-in_order b i None w none =
+-- every bundle is whole
+pub whole : (b : Bundle) → Whole b
+whole b = (b.accepted, b.headed)
+
+-- what a bundle hands out is in order
+pub in_order : (b : Bundle) (i : ℕ) (o : Option Body) → HandedOut b i o → InOrder (bundle_bytes b) i o
+in_order b i None none =
     let bs = bundle_bytes b in
-    let s = sound bs w.0 in
-    let n : b.header.rows ≡ rows bs = ap (λ (h : Header). h.rows) w.1 in
+    let s = sound bs b.accepted in
+    let n : b.header.rows ≡ rows bs = ap (λ (h : Header). h.rows) b.headed in
     let past : rows bs ≤ i =
     ⊎_elim
     (λ (h : i < rows bs).
@@ -105,20 +109,15 @@ in_order b i None w none =
     (cases_lt i (rows bs)) in
     let least = s.least in
     (past, omega arith)
-in_order b i (Some d) w given =
+in_order b i (Some d) given =
     let bs = bundle_bytes b in
-    let s = sound bs w.0 in
-    let n : b.header.rows ≡ rows bs = ap (λ (h : Header). h.rows) w.1 in
+    let s = sound bs b.accepted in
+    let n : b.header.rows ≡ rows bs = ap (λ (h : Header). h.rows) b.headed in
     let l = ltb-true i b.header.rows (and_parts _ _ (and_parts _ _ given.0).0).0 in
     let h : i < rows bs = omega arith in
     (h, given.1 ∙ right_number i (row_kind bs i) (row_zero bs i) (s.right i h))
 
 -- what reading row i and its stretch tells of body i
-pub no_row : (b : Bundle) (i : ℕ) → None ≡ row_at (bundle_bytes b) i → has_body b i ≡ false
-no_row b i e =
-    let out = row_seen (bundle_bytes b) i None false e refl in
-    and_left _ (leb (body_end (bundle_bytes b) i) (length (bundle_bytes b))) (and_right (ltb i b.header.rows) _ out)
-
 pub no_stretch :
     (b : Bundle) (i e : ℕ) (row : Row) → Some row ≡ row_at (bundle_bytes b) i → e ≡ row.offset + row.count * entry_size row.kind
     → (e < row.offset) ⊎ (length (bundle_bytes b) < e) → has_body b i ≡ false

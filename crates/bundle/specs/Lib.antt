@@ -2,3 +2,4 @@ pub mod Bodies
 pub mod Contents
 pub mod Faults
 pub mod Format
+pub mod Kinds

@@ -1,6 +1,8 @@
 ghost use Rattle.std.specs.Prelude.{◌≡◌};
-ghost use Rattle.bundle.specs.Format.{entry_size};
-ghost use Rattle.bundle.specs.Bodies.{body_kind, body_bytes, kind_number};
+ghost use Rattle.bundle.specs.Bodies.{body_kind, body_bytes};
+ghost use Rattle.bundle.specs.Kinds.{number_of};
+
+use crate::kind::Kind;
 
 // A body with its kind, as the stretch of the bundle that it is.
 #[derive(Clone, Copy, Debug)]
@@ -16,32 +18,20 @@ pub enum Body<'a> {
 }
 
 impl<'a> Body<'a> {
-    // The body that this stretch is, by the kind in its row.
-    pub(crate) fn of(kind: u8, stretch: &'a [u8]) -> Body<'a>
-        ensures kind { body_kind result ≡ kind_number kind }
+    // The body of this kind that this stretch is.
+    pub(crate) fn of(kind: Kind, stretch: &'a [u8]) -> Body<'a>
+        ensures kind { body_kind result ≡ number_of kind }
         ensures bytes { body_bytes result ≡ stretch.now }
     {
         match kind {
-            1 => Body::Cells(stretch),
-            2 => Body::Nets(stretch),
-            3 => Body::Rom(stretch),
-            4 => Body::Ram(stretch),
-            5 => Body::Wires(stretch),
-            6 => Body::Pilots(stretch),
-            7 => Body::Starts(stretch),
-            _ => Body::Skipped(stretch),
+            Kind::Cells => Body::Cells(stretch),
+            Kind::Nets => Body::Nets(stretch),
+            Kind::Rom => Body::Rom(stretch),
+            Kind::Ram => Body::Ram(stretch),
+            Kind::Wires => Body::Wires(stretch),
+            Kind::Pilots => Body::Pilots(stretch),
+            Kind::Starts => Body::Starts(stretch),
+            Kind::Skipped => Body::Skipped(stretch),
         }
-    }
-}
-
-// How many bytes an entry of a body of this kind has.
-pub(crate) fn entry_size(kind: u8) -> usize
-    ensures { result ≡ entry_size kind }
-{
-    match kind {
-        1 | 2 => 10,
-        3 | 5 | 6 => 2,
-        4 => 4,
-        _ => 1,
     }
 }

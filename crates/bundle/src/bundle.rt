@@ -1,8 +1,10 @@
-ghost use Rattle.std.specs.Prelude.{◌≡◌};
-ghost use Rattle.bundle.specs.Bodies.{bundle_bytes, bundle_header, Whole, Opened, HandedOut, InOrder};
+ghost use Rattle.std.specs.Prelude.{◌≡◌, None};
+ghost use Rattle.bundle.specs.Format.{bundle_refusal};
+ghost use Rattle.bundle.specs.Contents.{the_header};
 
 use crate::body::Body;
 use crate::header::Header;
+use crate::kind::Kind;
 use crate::questions::{ask, ask_bodies, ask_kinds, ask_rows};
 use crate::refusal::{Fault, Refusal};
 use crate::row::Row;
@@ -12,9 +14,14 @@ use crate::row::Row;
 pub struct Bundle<'a> {
     header: Header,
     bytes: &'a [u8],
+    // no question refuses the bytes
+    ghost accepted: { bundle_refusal bytes.now ≡ None },
+    ghost headed: { header ≡ the_header bytes.now },
 }
 
 impl<'a> Bundle<'a> {
+    ghost use Rattle.bundle.specs.Bodies.{bundle_bytes, bundle_header, Opened, HandedOut, InOrder};
+
     // The bundle that these bytes are, or what is wrong with them.
     pub fn open(bytes: &'a [u8]) -> Result<Bundle<'a>, Refusal>
         ensures { Opened bytes.now result }
@@ -38,7 +45,7 @@ impl<'a> Bundle<'a> {
     // The body of the row of this number, with its kind.
     pub fn body(&self, row: usize) -> Option<Body<'a>>
         ensures handed { HandedOut self.now row result }
-        ensures whole { Whole self.now → InOrder (bundle_bytes self.now) row result }
+        ensures in_order { InOrder (bundle_bytes self.now) row result }
     {
         if row >= self.header.rows as usize {
             return None;
@@ -46,6 +53,6 @@ impl<'a> Bundle<'a> {
         let row = Row::read(self.bytes, row)?;
         let start = row.offset as usize;
         let stretch = self.bytes.get(start..row.end())?;
-        Some(Body::of(row.kind, stretch))
+        Some(Body::of(Kind::from(row.kind), stretch))
     }
 }

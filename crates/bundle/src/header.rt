@@ -53,6 +53,7 @@ impl Header {
                 window: u16::from_le_bytes([*window_0, *window_1]),
                 length: u32::from_le_bytes([*length_0, *length_1, *length_2, *length_3]),
             }),
+            // Why not asked: the pattern is the question, and `ask` takes a bool.
             _ => Err(Refusal {
                 fault: Fault::Header,
                 place: 0,

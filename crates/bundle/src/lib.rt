@@ -4,6 +4,7 @@
 mod body;
 mod bundle;
 mod header;
+mod kind;
 mod questions;
 mod refusal;
 mod row;

@@ -28,13 +28,9 @@ pub fn ask(holds: bool, fault: Fault) -> Result<(), Refusal>
 pub(crate) fn ask_rows(bytes: &[u8], rows: usize) -> Result<(), Refusal>
     ensures { result_err result ≡ ask_each (row_inside bytes.now) fault.Rows 0 rows }
 {
+    // Why by index: a row is read by its number, which is the place of the refusal.
     for i in 0..rows {
-        if Row::read(bytes, i).is_none() {
-            return Err(Refusal {
-                fault: Fault::Rows,
-                place: i,
-            });
-        }
+        ask_at(Row::read(bytes, i).is_some(), Fault::Rows, i)?;
     }
     Ok(())
 }
@@ -44,13 +40,9 @@ pub(crate) fn ask_kinds(bytes: &[u8], rows: usize) -> Result<(), Refusal>
     requires { ask_each (row_inside bytes.now) fault.Rows 0 rows ≡ None }
     ensures { result_err result ≡ ask_each (row_right bytes.now) fault.Kinds 0 rows }
 {
+    // Why by index: a row is read by its number, which is the place of the refusal.
     for i in 0..rows {
-        if !Row::at(bytes, i).is_right(i) {
-            return Err(Refusal {
-                fault: Fault::Kinds,
-                place: i,
-            });
-        }
+        ask_at(Row::at(bytes, i).is_right(i), Fault::Kinds, i)?;
     }
     Ok(())
 }
@@ -61,14 +53,11 @@ pub(crate) fn ask_bodies(bytes: &[u8], rows: usize) -> Result<(), Refusal>
     ensures { result_err result ≡ ask_each (row_placed bytes.now) fault.Bodies 0 rows }
 {
     let mut part_end = 18 + 8 * rows;
+    // Why by index: a row is read by its number, which is the place of the refusal.
     for i in 0..rows {
         let row = Row::at(bytes, i);
-        if !row.is_placed(part_end, i + 1 == rows, bytes.len()) {
-            return Err(Refusal {
-                fault: Fault::Bodies,
-                place: i,
-            });
-        }
+        let placed = row.is_placed(part_end, i + 1 == rows, bytes.len());
+        ask_at(placed, Fault::Bodies, i)?;
         part_end = row.end();
     }
     Ok(())

@@ -72,6 +72,7 @@ impl Refusal {
     pub fn layer(self) -> u8
         ensures { result ≡ fault_layer self.fault }
     {
+        // Why numbers: the layers are ranges of numbers, as the pages give them.
         match self.number() {
             0..=5 => 1,
             6..=12 => 2,

@@ -2,11 +2,12 @@ ghost use Rattle.std.specs.Prelude.{◌≡◌, ◌+◌, ◌*◌, true, not, ◌&
 ghost use Rattle.bundle.specs.Format.{row_inside, kind_right, entry_size};
 ghost use Rattle.bundle.specs.Contents.{row_at, the_row};
 
-use crate::body::entry_size;
+use crate::kind::Kind;
 
 // A row of the contents: the kind of its body, a zero byte, how many entries the body has and where it begins.
 #[derive(Clone, Copy, PartialEq, Eq, Debug)]
 pub struct Row {
+    // Why a number: a row of the kinds 8 to 127 is read before it is refused, and `Kind` has no case for it.
     pub kind: u8,
     pub zero: u8,
     pub count: u16,
@@ -48,10 +49,7 @@ impl Row {
         requires { row_inside bytes.now index ≡ true }
         ensures { result ≡ the_row bytes.now index }
     {
-        match Row::read(bytes, index) {
-            Some(row) => row,
-            None => unreachable(),
-        }
+        Row::read(bytes, index).unwrap()
     }
 
     // Is this the kind that the row of this number must have, and the zero byte 0?
@@ -70,7 +68,7 @@ impl Row {
     pub(crate) fn end(self) -> usize
         ensures { result ≡ self.offset + self.count * entry_size self.kind }
     {
-        self.offset as usize + self.count as usize * entry_size(self.kind)
+        self.offset as usize + self.count as usize * Kind::from(self.kind).entry_size()
     }
 
     // Does the body begin at this place and, if it is the last, end with the bundle?

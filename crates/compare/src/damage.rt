@@ -1,88 +1,46 @@
 // Records and bundles that are changed so that they are refused.
-use beside::{Answer, Pair, Stop, Tally, agree_on, refusal_of};
+use crate::comparison::Comparison;
+use beside::{Answer, Case, Pair, Stop, answered};
 use decode::read_design;
 use design::Design;
-use random_tags::{Parts, Random};
+use random_tags::{Body, Parts, Random};
 use record::{Fate, Origin};
-use slow_tag::read_tag;
-use std::alloc::Global;
+use slow_tag::{Question, read_tag, refuse};
+use std::alloc::AllocError;
 
-// Makes a record name a point, as its origin or as what it is cut to, in both.
-fn name_in_both(pair: &mut Pair, place: usize, named: usize, in_origin: bool) {
-    let short = (named & 0xffff) as u16;
-    if let Some(point) = pair.bench.points.get_mut(place) {
-        if in_origin {
-            point.origin = Origin::From { point: short };
-        } else {
-            point.fate = Fate::Cut { to: short };
-        }
+// Makes a record name a point as its origin, in both.
+fn name_origin(pair: &mut Pair, place: usize, named: u16) {
+    if let Some(point) = pair.bench.memory.points.get_mut(place) {
+        point.origin = Origin::From { point: named };
     }
     if let Some(point) = pair.record.points.get_mut(place) {
-        if in_origin {
-            point.origin = Some(named);
-        } else {
-            point.fate = slow::Fate::Cut(named);
-        }
+        point.origin = Some(named as usize);
     }
 }
 
-// Makes a record name a point that is not in use, in both, and asks for the window.
-pub(crate) fn damage_record(
-    random: &mut Random,
-    pair: &mut Pair,
-    tally: &mut Tally,
-    heap: Global,
-) -> Result<(), Stop> {
-    let count = pair.record.points.len();
-    if pair.record.open_count() != 0 || count == 0 {
-        return Ok(());
+// Makes a record name a point as what it is cut to, in both.
+fn name_cut(pair: &mut Pair, place: usize, named: u16) {
+    if let Some(point) = pair.bench.memory.points.get_mut(place) {
+        point.fate = Fate::Cut { to: named };
     }
-    let place = random.below(count);
-    let named = count.saturating_add(random.below(3)).min(65535);
-    let in_origin = random.once_in(2);
-    name_in_both(pair, place, named, in_origin);
-    let answer = pair.window(3, 0, tally, heap)?;
-    let expected = Some(Answer::Refused(slow_tag::refuse(21, place)));
-    agree_on(
-        &mut tally.damaged,
-        "a damaged record",
-        answer,
-        expected,
-        heap,
-    )
-}
-
-// Reads a bundle by both.
-pub(crate) fn read_both(bytes: &[u8], tally: &mut Tally, heap: Global) -> Result<Answer, Stop> {
-    let mut design = Design::new();
-    let library = match read_design(&mut design, bytes) {
-        Ok(()) => Answer::Value(0),
-        Err(refusal) => Answer::Refused(refusal_of(refusal)),
-    };
-    let slow = match read_tag(bytes, heap) {
-        Ok(_) => Answer::Value(0),
-        Err(slow_tag::Stop::Refused(refusal)) => Answer::Refused(refusal),
-        Err(slow_tag::Stop::Memory) => return Err(Stop::Memory),
-    };
-    tally.note(library);
-    agree_on(&mut tally.bundles, "a bundle", library, Some(slow), heap)?;
-    Ok(library)
+    if let Some(point) = pair.record.points.get_mut(place) {
+        point.fate = slow::Fate::Cut(named as usize);
+    }
 }
 
 // Writes a byte, if it is there.
 fn put(bytes: &mut [u8], place: usize, value: usize) {
-    if place < bytes.len() {
-        bytes[place] = (value & 0xff) as u8;
+    if let Some(byte) = bytes.get_mut(place) {
+        *byte = (value & 0xff) as u8;
     }
 }
 
 // Makes the header's length that of the bundle.
 fn mend_length(bytes: &mut [u8]) {
-    let length = bytes.len();
-    put(bytes, 14, length);
-    put(bytes, 15, length >> 8);
-    put(bytes, 16, length >> 16);
-    put(bytes, 17, length >> 24);
+    let length = bytes.len().to_le_bytes();
+    for (byte, field) in bytes.iter_mut().skip(14).take(4).zip(length) {
+        *byte = field;
+    }
 }
 
 // Changes some bytes, from a place on.
@@ -100,7 +58,8 @@ fn change_bytes(random: &mut Random, bytes: &mut [u8], first: usize) {
 }
 
 // Cuts the bundle short, or makes it longer, its length mended or not.
-fn change_length(random: &mut Random, bytes: &mut Vec<u8>) -> Result<(), Stop> {
+// Why numbers: the draw says which change it is; an enum to draw from would name each change once more. So in the next functions.
+fn change_length(random: &mut Random, bytes: &mut Vec<u8>) -> Result<(), AllocError> {
     match random.below(4) {
         0 => bytes.truncate(random.below(90)),
         1 => {
@@ -119,72 +78,90 @@ fn change_length(random: &mut Random, bytes: &mut Vec<u8>) -> Result<(), Stop> {
     Ok(())
 }
 
-// One of the bodies, and the size of its entries.
-fn body(parts: &mut Parts, number: usize) -> (&mut Vec<u8>, usize) {
-    match number {
-        0 => (&mut parts.cells, 10),
-        1 => (&mut parts.nets, 10),
-        2 => (&mut parts.rom, 2),
-        3 => (&mut parts.ram, 4),
-        4 => (&mut parts.wires, 2),
-        5 => (&mut parts.pilots, 2),
-        _ => (&mut parts.starts, 1),
-    }
-}
-
-// Changes one body: a byte, or the number of its entries. The bundle of it is whole.
-fn change_body(random: &mut Random, parts: &mut Parts, heap: Global) -> Result<Vec<u8>, Stop> {
-    let number = random.below(7);
-    let more = random.below(10);
-    let (bytes, size) = body(parts, number);
-    match more {
+// Changes one body: a byte, or the number of its entries.
+fn change_body(random: &mut Random, parts: &mut Parts) -> Result<(), AllocError> {
+    let body = random.pick(&Body::ALL);
+    let change = random.below(10);
+    let bytes = parts.body_mut(body);
+    match change {
         0 => {
-            let length = bytes.len().saturating_sub(size);
+            let length = bytes.len().saturating_sub(body.entry_size());
             bytes.truncate(length);
         }
         1 => {
-            for _ in 0..size {
-                bytes.push(0)?;
-            }
+            let length = bytes.len().saturating_add(body.entry_size());
+            bytes.resize(length, 0)?;
         }
-        2 => bytes.truncate(0),
+        2 => bytes.clear(),
         _ => change_bytes(random, bytes, 0),
     }
-    Ok(parts.bundle(heap)?)
+    Ok(())
 }
 
 // Changes a figure of the header.
-fn change_figures(random: &mut Random, parts: &mut Parts, heap: Global) -> Result<Vec<u8>, Stop> {
+fn change_figures(random: &mut Random, parts: &mut Parts) {
     if random.once_in(2) {
         parts.clock = random.pick(&[0, 1, 200, 201, 256, 65535]);
     } else {
         parts.window = random.pick(&[0, 1, 65535]);
     }
-    Ok(parts.bundle(heap)?)
 }
 
-// Changes a tag's bundle in some way, and reads what comes of it, which is left in `shown`, by both.
-pub(crate) fn damage_bundle(
-    random: &mut Random,
-    whole: &Parts,
-    tally: &mut Tally,
-    shown: &mut Vec<u8>,
-    heap: Global,
-) -> Result<(), Stop> {
-    let mut parts = whole.copy(heap)?;
-    let mut bytes = parts.bundle(heap)?;
-    match random.below(8) {
-        0 => change_bytes(random, &mut bytes, 0),
-        1 => change_bytes(random, &mut bytes, 18),
-        2 => {
-            let place = random.between(0, 73);
-            put(&mut bytes, place, random.below(256));
+impl Comparison {
+    // Makes a record name a point that is not in use, in both, and asks for the window.
+    pub(crate) fn damage_record(&mut self, pair: &mut Pair) -> Result<(), Stop> {
+        let count = pair.record.points.len();
+        if pair.record.open_count() != 0 || count == 0 {
+            return Ok(());
         }
-        3 => change_length(random, &mut bytes)?,
-        4 => bytes = change_figures(random, &mut parts, heap)?,
-        _ => bytes = change_body(random, &mut parts, heap)?,
+        let place = self.random.below(count);
+        let named = count.saturating_add(self.random.below(3)).min(65535) as u16;
+        if self.random.once_in(2) {
+            name_origin(pair, place, named);
+        } else {
+            name_cut(pair, place, named);
+        }
+        let answer = pair.window(3, 0, &mut self.tally)?;
+        let expected = refuse(Question::Names, place);
+        self.tally
+            .agree_on(Case::Damaged, "a damaged record", answer, expected.into())
     }
-    *shown = bytes.clone()?;
-    read_both(&bytes, tally, heap)?;
-    Ok(())
+
+    // Reads a bundle by both.
+    pub(crate) fn read_both(&mut self, bytes: &[u8]) -> Result<Answer, Stop> {
+        let mut design = Design::new();
+        let library = Answer::from(read_design(&mut design, bytes).map(|()| 0u64));
+        let slow = Answer::from(answered(read_tag(bytes, self.heap))?.map(|_tag| 0u64));
+        self.tally.note(library);
+        self.tally
+            .agree_on(Case::Bundles, "a bundle", library, slow)?;
+        Ok(library)
+    }
+
+    // Changes a tag's bundle in some way, and reads what comes of it by both.
+    pub(crate) fn damage_bundle(&mut self, whole: &Parts) -> Result<(), Stop> {
+        let random = &mut self.random;
+        let mut parts = whole.clone()?;
+        let mut bytes = parts.bundle(self.heap)?;
+        match random.below(8) {
+            0 => change_bytes(random, &mut bytes, 0),
+            1 => change_bytes(random, &mut bytes, 18),
+            2 => {
+                let place = random.between(0, 73);
+                put(&mut bytes, place, random.below(256));
+            }
+            3 => change_length(random, &mut bytes)?,
+            4 => {
+                change_figures(random, &mut parts);
+                bytes = parts.bundle(self.heap)?;
+            }
+            _ => {
+                change_body(random, &mut parts)?;
+                bytes = parts.bundle(self.heap)?;
+            }
+        }
+        self.shown = bytes.clone()?;
+        self.read_both(&bytes)?;
+        Ok(())
+    }
 }

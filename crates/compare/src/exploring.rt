@@ -1,14 +1,13 @@
 // One tag explored by both: random limits, starts, budgets and rules.
-use crate::damage::damage_record;
-use crate::running::run_all;
-use beside::{Answer, Bench, Pair, Stop, Tally, agree, agree_on};
+use crate::comparison::Comparison;
+use beside::{Answer, Bench, Case, Lengths, Pair, Part, Rows, Rule, Stop, Tally};
 use design::Design;
 use random_tags::Random;
 use slow::{Fate, Limits, Record};
-use slow_tag::{Tag, refuse};
-use std::alloc::Global;
+use slow_tag::{Question, Tag, refuse};
 
 // Limits that are often small, sometimes ample, and seldom beyond what an exploration takes.
+// Why numbers: the draw says which kind of limits it is, some more often; an enum to draw from would name each kind once more.
 fn choose_limits(random: &mut Random) -> Limits {
     match random.below(10) {
         0..=2 => Limits {
@@ -39,192 +38,17 @@ fn choose_limits(random: &mut Random) -> Limits {
     }
 }
 
-// Makes an exploration with each length in turn too short by one, which is refused.
-fn make_short(design: &Design, places: usize, tally: &mut Tally, heap: Global) -> Result<(), Stop> {
-    let scratch = places.saturating_mul(2).saturating_add(1024);
-    let short = places.saturating_sub(1);
-    for (points, opened, kept, scratch) in [
-        (0, places, places, scratch),
-        (1, short, places, scratch),
-        (1, places, short, scratch),
-        (1, places, places, scratch.saturating_sub(1)),
-    ] {
-        let mut bench = Bench::new(points, opened, kept, scratch, heap)?;
-        let made = bench.make(design);
-        tally.note(made);
-        let memory = Some(Answer::Refused(refuse(13, 0)));
-        agree_on(&mut tally.makes, "a making", made, memory, heap)?;
+// How long the memory for these limits is, with some places `more`.
+fn lengths_of(limits: Limits, places: usize, more: usize) -> Lengths {
+    Lengths {
+        points: limits.points,
+        opened: limits.open.saturating_mul(places).saturating_add(more),
+        kept: limits.entries.saturating_mul(places).saturating_add(more),
+        scratch: places
+            .saturating_mul(2)
+            .saturating_add(1024)
+            .saturating_add(more),
     }
-    Ok(())
-}
-
-// Both explorations, just made, over memory for these limits and some places `more`.
-pub(crate) fn pair_over<'a>(
-    design: &'a Design,
-    tag: &'a Tag,
-    lent: Limits,
-    more: usize,
-    tally: &mut Tally,
-    heap: Global,
-) -> Result<Pair<'a>, Stop> {
-    let places = tag.places();
-    let opened = lent.open.saturating_mul(places).saturating_add(more);
-    let kept = lent.entries.saturating_mul(places).saturating_add(more);
-    let scratch = places
-        .saturating_mul(2)
-        .saturating_add(1024)
-        .saturating_add(more);
-    let mut bench = Bench::new(lent.points, opened, kept, scratch, heap)?;
-    let made = bench.make(design);
-    agree_on(
-        &mut tally.makes,
-        "making",
-        made,
-        Some(Answer::Value(0)),
-        heap,
-    )?;
-    let limits = Limits {
-        points: lent.points.min(65535),
-        open: lent.open.min(64),
-        entries: lent.entries.min(256),
-    };
-    Ok(Pair {
-        design,
-        tag,
-        bench,
-        record: Record::new(limits, heap),
-        starts: Vec::new(heap),
-        refused: false,
-    })
-}
-
-// Makes all calls with a length that is not that of the making.
-fn change_lengths(
-    random: &mut Random,
-    pair: &mut Pair,
-    tally: &mut Tally,
-    heap: Global,
-) -> Result<(), Stop> {
-    match random.below(4) {
-        0 => {
-            let last = pair.bench.points.pop();
-            pair.ask_all(tally, heap)?;
-            if let Some(point) = last {
-                let _ = pair.bench.points.push(point);
-            }
-        }
-        1 => {
-            let last = pair.bench.opened.pop();
-            pair.ask_all(tally, heap)?;
-            if let Some(level) = last {
-                let _ = pair.bench.opened.push(level);
-            }
-        }
-        2 => {
-            let last = pair.bench.kept.pop();
-            pair.ask_all(tally, heap)?;
-            if let Some(level) = last {
-                let _ = pair.bench.kept.push(level);
-            }
-        }
-        _ => {
-            let last = pair.bench.scratch.pop();
-            pair.ask_all(tally, heap)?;
-            if let Some(level) = last {
-                let _ = pair.bench.scratch.push(level);
-            }
-        }
-    }
-    pair.compare(tally, heap)
-}
-
-// Takes all starts, some twice, and some that are not there.
-fn take_starts(
-    random: &mut Random,
-    pair: &mut Pair,
-    tally: &mut Tally,
-    heap: Global,
-) -> Result<(), Stop> {
-    for number in 0..pair.tag.start_count() {
-        pair.start(number, tally, heap)?;
-        if random.once_in(10) {
-            pair.start(number, tally, heap)?;
-        }
-    }
-    if random.once_in(8) {
-        let beyond = pair.tag.start_count().saturating_add(random.below(3));
-        pair.start(beyond, tally, heap)?;
-    }
-    Ok(())
-}
-
-// Walks with small budgets, with other calls in between, and then with a large one.
-fn walk_on(
-    random: &mut Random,
-    pair: &mut Pair,
-    rule: usize,
-    tally: &mut Tally,
-    heap: Global,
-) -> Result<(), Stop> {
-    for _ in 0..random.below(4) {
-        let budget = (random.below(9) & 0xff) as u16;
-        pair.walk(rule, budget, tally, heap)?;
-        match random.below(12) {
-            0 => {
-                pair.peak(tally, heap)?;
-            }
-            1 => {
-                pair.window(2, 0, tally, heap)?;
-            }
-            2 => change_lengths(random, pair, tally, heap)?,
-            3 => {
-                let number = random.below(pair.tag.start_count());
-                pair.start(number, tally, heap)?;
-            }
-            4 => {
-                let other = random.below(5);
-                pair.walk(other, 3, tally, heap)?;
-            }
-            _ => {}
-        }
-    }
-    pair.walk(rule, 600, tally, heap)?;
-    Ok(())
-}
-
-// The figures of both, windows of several widths.
-fn figures(
-    random: &mut Random,
-    pair: &mut Pair,
-    tally: &mut Tally,
-    heap: Global,
-) -> Result<(), Stop> {
-    pair.peak(tally, heap)?;
-    let few = pair.record.points.len() <= 12;
-    let wide = if few && random.once_in(40) { 65535 } else { 9 };
-    for width in [0, 1, 2, 3, 5, wide] {
-        let more = random.below(3);
-        pair.window(width, more, tally, heap)?;
-    }
-    pair.figures(2, tally, heap)?;
-    let rows = pair.record.points.len();
-    if 0 < rows && random.once_in(4) {
-        let lengths = if random.once_in(2) {
-            (rows.saturating_sub(1), rows)
-        } else {
-            (rows, rows.saturating_sub(1))
-        };
-        let (short, cleared) = pair.bench.window(pair.design, 2, lengths, heap)?;
-        let memory = Some(Answer::Refused(refuse(13, 0)));
-        agree_on(&mut tally.lengths, "short rows", short, memory, heap)?;
-        agree(
-            &mut tally.lengths,
-            cleared,
-            "the rows, one being short",
-            heap,
-        )?;
-    }
-    Ok(())
 }
 
 // Counts what became of the points.
@@ -239,30 +63,167 @@ fn count_fates(pair: &Pair, tally: &mut Tally) {
     }
 }
 
-// Explores a tag by both.
-pub(crate) fn explore_tag<'a>(
-    random: &mut Random,
-    design: &'a Design,
-    tag: &'a Tag,
-    tally: &mut Tally,
-    heap: Global,
-) -> Result<(), Stop> {
-    if random.once_in(16) {
-        make_short(design, tag.places(), tally, heap)?;
+impl Comparison {
+    // Makes an exploration with each length in turn too short by one, which is refused.
+    fn make_short(&mut self, design: &Design, places: usize) -> Result<(), Stop> {
+        let least = Limits {
+            points: 1,
+            open: 1,
+            entries: 1,
+        };
+        for part in Part::ALL {
+            let mut bench = Bench::new(lengths_of(least, places, 0), self.heap)?;
+            bench.memory.short = Some(part);
+            let made = bench.make(design);
+            self.tally.note(made);
+            let memory = refuse(Question::Memory, 0);
+            self.tally
+                .agree_on(Case::Makings, "a making", made, memory.into())?;
+        }
+        Ok(())
     }
-    let lent = choose_limits(random);
-    let more = random.below(tag.places());
-    let mut pair = pair_over(design, tag, lent, more, tally, heap)?;
-    let rule = random.below(5);
-    if random.once_in(10) {
-        pair.walk(rule, 3, tally, heap)?;
-        pair.peak(tally, heap)?;
-        pair.window(2, 1, tally, heap)?;
+
+    // Both explorations, just made, over memory for these limits and some places `more`.
+    pub(crate) fn pair_over<'a>(
+        &mut self,
+        design: &'a Design,
+        tag: &'a Tag,
+        lent: Limits,
+        more: usize,
+    ) -> Result<Pair<'a>, Stop> {
+        let mut bench = Bench::new(lengths_of(lent, tag.places(), more), self.heap)?;
+        let made = bench.make(design);
+        self.tally
+            .agree_on(Case::Makings, "making", made, Answer::Value(0))?;
+        let limits = Limits {
+            points: lent.points.min(65535),
+            open: lent.open.min(64),
+            entries: lent.entries.min(256),
+        };
+        Ok(Pair {
+            design,
+            tag,
+            bench,
+            record: Record::new(limits, self.heap),
+            starts: Vec::new(self.heap),
+            refused: false,
+            heap: self.heap,
+        })
     }
-    take_starts(random, &mut pair, tally, heap)?;
-    walk_on(random, &mut pair, rule, tally, heap)?;
-    figures(random, &mut pair, tally, heap)?;
-    count_fates(&pair, tally);
-    run_all(random, &mut pair, tally, heap)?;
-    damage_record(random, &mut pair, tally, heap)
+
+    // Makes all calls with a length that is not that of the making.
+    fn change_lengths(&mut self, pair: &mut Pair) -> Result<(), Stop> {
+        pair.bench.memory.short = Some(self.random.pick(&Part::ALL));
+        pair.ask_all(&mut self.tally)?;
+        pair.bench.memory.short = None;
+        pair.compare(&mut self.tally)
+    }
+
+    // Takes all starts, some twice, and some that are not there.
+    fn take_starts(&mut self, pair: &mut Pair) -> Result<(), Stop> {
+        for number in 0..pair.tag.start_count() {
+            pair.start(number, &mut self.tally)?;
+            if self.random.once_in(10) {
+                pair.start(number, &mut self.tally)?;
+            }
+        }
+        if self.random.once_in(8) {
+            let beyond = pair.tag.start_count().saturating_add(self.random.below(3));
+            pair.start(beyond, &mut self.tally)?;
+        }
+        Ok(())
+    }
+
+    // Some other call in between, or none.
+    // Why numbers: the draw says which call it is, and mostly none; an enum to draw from would name each call once more.
+    fn call_between(&mut self, pair: &mut Pair) -> Result<(), Stop> {
+        match self.random.below(12) {
+            0 => {
+                pair.peak(&mut self.tally)?;
+            }
+            1 => {
+                pair.window(2, 0, &mut self.tally)?;
+            }
+            2 => self.change_lengths(pair)?,
+            3 => {
+                let number = self.random.below(pair.tag.start_count());
+                pair.start(number, &mut self.tally)?;
+            }
+            4 => {
+                let other = self.random.pick(&Rule::ALL);
+                pair.walk(other, 3, &mut self.tally)?;
+            }
+            _ => {}
+        }
+        Ok(())
+    }
+
+    // Walks with small budgets, with other calls in between, and then with a large one.
+    fn walk_on(&mut self, pair: &mut Pair, rule: Rule) -> Result<(), Stop> {
+        for _ in 0..self.random.below(4) {
+            let budget = (self.random.below(9) & 0xff) as u16;
+            pair.walk(rule, budget, &mut self.tally)?;
+            self.call_between(pair)?;
+        }
+        pair.walk(rule, 600, &mut self.tally)?;
+        Ok(())
+    }
+
+    // The figures of both, windows of several widths.
+    fn figures(&mut self, pair: &mut Pair) -> Result<(), Stop> {
+        pair.peak(&mut self.tally)?;
+        let few = pair.record.points.len() <= 12;
+        let wide = if few && self.random.once_in(40) {
+            65535
+        } else {
+            9
+        };
+        for width in [0, 1, 2, 3, 5, wide] {
+            let more = self.random.below(3);
+            pair.window(width, more, &mut self.tally)?;
+        }
+        pair.figures(2, &mut self.tally)?;
+        let length = pair.record.points.len();
+        if 0 < length && self.random.once_in(4) {
+            self.short_rows(pair, length)?;
+        }
+        Ok(())
+    }
+
+    // Asks for the window over rows, one of which is too short by one.
+    fn short_rows(&mut self, pair: &mut Pair, length: usize) -> Result<(), Stop> {
+        let short = length.saturating_sub(1);
+        let mut rows = if self.random.once_in(2) {
+            Rows::new(short, length, self.heap)?
+        } else {
+            Rows::new(length, short, self.heap)?
+        };
+        let window = pair.bench.window(pair.design, 2, &mut rows);
+        let memory = refuse(Question::Memory, 0);
+        self.tally
+            .agree_on(Case::Lengths, "short rows", window, memory.into())?;
+        self.tally.agree(Case::Lengths, rows.are_clear(), "the rows, one being short")
+    }
+
+    // Explores a tag by both.
+    pub(crate) fn explore_tag(&mut self, design: &Design, tag: &Tag) -> Result<(), Stop> {
+        if self.random.once_in(16) {
+            self.make_short(design, tag.places())?;
+        }
+        let lent = choose_limits(&mut self.random);
+        let more = self.random.below(tag.places());
+        let mut pair = self.pair_over(design, tag, lent, more)?;
+        let rule = self.random.pick(&Rule::ALL);
+        if self.random.once_in(10) {
+            pair.walk(rule, 3, &mut self.tally)?;
+            pair.peak(&mut self.tally)?;
+            pair.window(2, 1, &mut self.tally)?;
+        }
+        self.take_starts(&mut pair)?;
+        self.walk_on(&mut pair, rule)?;
+        self.figures(&mut pair)?;
+        count_fates(&pair, &mut self.tally);
+        self.run_all(&mut pair)?;
+        self.damage_record(&mut pair)
+    }
 }

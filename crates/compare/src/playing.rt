@@ -1,16 +1,16 @@
 // Lines of inputs played by both.
-use beside::{Stop, Tally, agree, refusal_of};
-use bundle::Refusal;
+use crate::comparison::Comparison;
+use beside::{Case, Refusal, Stop, answered};
 use design::Design;
 use levels::Bit;
-use player::{Cycle, play};
+use player::{Buffers, Cycle, play};
 use random_tags::Random;
 use slow_bits::play_lines;
 use slow_tag::Tag;
-use std::alloc::Global;
+use std::alloc::{AllocError, Global};
 
 // Up to eight lines, mostly whole, sometimes with a character too many, one too few or another one.
-fn make_text(random: &mut Random, inputs: usize, heap: Global) -> Result<Vec<u8>, Stop> {
+fn make_text(random: &mut Random, inputs: usize, heap: Global) -> Result<Vec<u8>, AllocError> {
     let mut text = Vec::new(heap);
     for _ in 0..random.below(9) {
         for _ in 0..inputs {
@@ -27,7 +27,7 @@ fn make_text(random: &mut Random, inputs: usize, heap: Global) -> Result<Vec<u8>
             1 => text.push(b'0')?,
             _ => {
                 if let Some(character) = text.get_mut(place) {
-                    *character = (random.pick(&[48, 10, 50, 13]) & 0x7f) as u8;
+                    *character = random.pick(b"0\n2\r");
                 }
             }
         }
@@ -35,60 +35,72 @@ fn make_text(random: &mut Random, inputs: usize, heap: Global) -> Result<Vec<u8>
     Ok(text)
 }
 
-// The cycles that the library plays, and whether its scratch is all 0 in the end.
-fn library_plays(
-    design: &Design,
-    text: &[u8],
-    heap: Global,
-) -> Result<(Result<Vec<Cycle>, Refusal>, bool), Stop> {
-    let mut state = vec![in heap; Bit::One; design.places()]?;
-    let room = design.places().saturating_mul(2).saturating_add(1024);
-    let mut scratch = vec![in heap; Bit::One; room]?;
-    let mut cycles = vec![in heap; Cycle { key: 0, energy: 0 }; text.len()]?;
-    let played = play(design, text, &mut state, &mut scratch, &mut cycles);
-    let mut clear = true;
-    for bit in scratch.iter() {
-        clear = clear && *bit == Bit::Zero;
+// The memory that is lent to the library's player.
+#[derive(Drop)]
+struct Memory {
+    state: Vec<Bit>,
+    scratch: Vec<Bit>,
+    cycles: Vec<Cycle>,
+}
+
+impl Memory {
+    // Memory for a text of so many bytes, in which anything may stand.
+    fn new(design: &Design, length: usize, heap: Global) -> Result<Memory, AllocError> {
+        let places = design.places();
+        let room = places.saturating_mul(2).saturating_add(1024);
+        Ok(Memory {
+            state: vec![in heap; Bit::One; places]?,
+            scratch: vec![in heap; Bit::One; room]?,
+            cycles: vec![in heap; Cycle { key: 0, energy: 0 }; length]?,
+        })
     }
-    match played {
-        Ok(count) => {
-            cycles.truncate(count);
-            Ok((Ok(cycles), clear))
-        }
-        Err(refusal) => Ok((Err(refusal), clear)),
+
+    // The cycles that the library plays.
+    fn play(&mut self, design: &Design, text: &[u8]) -> Result<(), bundle::Refusal> {
+        let mut lent = Buffers {
+            state: &mut self.state,
+            scratch: &mut self.scratch,
+            cycles: &mut self.cycles,
+        };
+        let count = play(design, text, &mut lent)?;
+        self.cycles.truncate(count);
+        Ok(())
+    }
+
+    // Is all scratch 0?
+    fn scratch_is_clear(&self) -> bool {
+        self.scratch.iter().all(|bit| *bit == Bit::Zero)
     }
 }
 
-// Are the cycles those of the slow simulator?
-fn same_cycles(library: &[Cycle], slow: &[slow_bits::Cycle], tally: &mut Tally) -> bool {
-    let mut same = library.len() == slow.len();
-    for (cycle, other) in library.iter().zip(slow.iter()) {
-        let agreed = cycle.key as usize == other.key && cycle.energy == other.energy;
-        tally.cycles.add(agreed);
-        same = same && agreed;
-    }
-    same
-}
-
-// Plays random lines by both.
-pub(crate) fn play_tag(
-    random: &mut Random,
-    design: &Design,
-    tag: &Tag,
-    tally: &mut Tally,
-    heap: Global,
-) -> Result<(), Stop> {
-    let text = make_text(random, tag.input_count(), heap)?;
-    let (library, clear) = library_plays(design, &text, heap)?;
-    let slow = play_lines(tag, &text, heap);
-    let same = match (library, slow) {
-        (_, Err(slow_tag::Stop::Memory)) => return Err(Stop::Memory),
-        (Ok(cycles), Ok(others)) => same_cycles(&cycles, &others, tally),
-        (Err(refusal), Err(slow_tag::Stop::Refused(other))) => {
-            tally.refused(other.number);
-            refusal_of(refusal) == other
+impl Comparison {
+    // Are the cycles those of the slow simulator?
+    fn same_cycles(&mut self, library: &[Cycle], slow: &[slow_bits::Cycle]) -> bool {
+        let mut same = library.len() == slow.len();
+        for (cycle, other) in library.iter().zip(slow.iter()) {
+            let agreed = cycle.key as usize == other.key && cycle.energy == other.energy;
+            self.tally.count(Case::PlayedCycles, agreed);
+            same = same && agreed;
         }
-        _ => false,
-    };
-    agree(&mut tally.plays, same && clear, "a play", heap)
+        same
+    }
+
+    // Plays random lines by both.
+    pub(crate) fn play_tag(&mut self, design: &Design, tag: &Tag) -> Result<(), Stop> {
+        let text = make_text(&mut self.random, tag.input_count(), self.heap)?;
+        let mut memory = Memory::new(design, text.len(), self.heap)?;
+        let library = memory.play(design, &text);
+        let slow = answered(play_lines(tag, &text, self.heap))?;
+        let same = match (library, slow) {
+            (Ok(()), Ok(cycles)) => self.same_cycles(&memory.cycles, &cycles),
+            (Err(refusal), Err(other)) => {
+                let other = Refusal::from(other);
+                self.tally.refused(other.number);
+                Refusal::from(refusal) == other
+            }
+            _ => false,
+        };
+        self.tally
+            .agree(Case::Plays, same && memory.scratch_is_clear(), "a play")
+    }
 }

@@ -4,7 +4,7 @@ ghost use Rattle.bundle.specs.Format.{refused_at};
 ghost use Rattle.model.specs.Core.{places};
 ghost use Rattle.design.specs.Views.{core};
 
-use bundle::{Fault, Refusal};
+use bundle::{Fault, Refusal, ask};
 use design::Design;
 
 // The most places that a state of a core may have in a program.
@@ -16,11 +16,6 @@ pub fn places_within(design: &Design) -> Result<usize, Refusal>
     ensures bound { IfOk result (λ n. n ≤ 1024) }
 {
     let places = design.places();
-    if places > MOST_PLACES {
-        return Err(Refusal {
-            fault: Fault::Memory,
-            place: 0,
-        });
-    }
+    ask(places <= MOST_PLACES, Fault::Memory)?;
     Ok(places)
 }

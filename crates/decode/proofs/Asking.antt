@@ -1,7 +1,7 @@
 -- A question put to each entry in turn, as a loop puts it.
-use Rattle.std.proofs.Common.{◌≡◌, ℕ, zero, suc, ◌+◌, ◌-◌, ◌<◌, ◌≤◌, Bool, true, false, cond, ◌≢◌, List, length, get_or, take, set, is_some, Some, None, Option, unwrap_or, sym, refl, ap, ◌∙◌, arith, below_more}
+use Rattle.std.proofs.Common.{◌≡◌, ℕ, zero, suc, ◌+◌, ◌-◌, ◌<◌, ◌≤◌, Bool, true, false, cond, ◌≢◌, List, ◌++◌, length, get_or, take, replicate, set, is_some, Some, None, Option, unwrap_or, sym, refl, ap, ◌∙◌, arith, below_more}
 use Rattle.std.proofs.lemmas.List.FromFn.{fill_by_all, get_or-map-range_with_len, length-map-range_with_len}
-use Rattle.std.proofs.lemmas.List.{get_or-take, length-take-le, get_or-set_same, get_or-set_other}
+use Rattle.std.proofs.lemmas.List.{take-append-le, get_or-take, length-take-le, length-replicate, get_or-set_same, get_or-set_other}
 use Rattle.bundle.specs.declared.refusal.Fault.{Fault}
 use Rattle.bundle.specs.declared.refusal.Refusal.{Refusal}
 use Rattle.bundle.specs.Format.{ask_each, refused_at}
@@ -41,6 +41,10 @@ all_pass f i (suc n) = all_pass f (i + 1) n
 pub never_refused : (f : Fault) (i n : ℕ) (r : Refusal) → Some r ≡ ask_each (λ (k : ℕ). true) f i n → ⊥
 never_refused f i n r e = let p = all_pass f i n in let z : ◌≡◌ {A = ℕ} 0 1 = cc in omega arith
 
+-- the front of a table that is still blank
+pub room_long : {A : Type 0} (n m : ℕ) (x : A) → n ≤ m → length (take n (replicate m x)) ≡ n
+room_long n m x h = length-take-le n (replicate m x) (omega (arith, length-replicate m x))
+
 -- Entries read into a table, those below i so far.
 module _ {A : Type 0} (read : ℕ → Option A) (f : Fault) (n : ℕ) where
   abbrev pub Reading : ℕ → List A → Type 0
@@ -65,9 +69,10 @@ module _ {A : Type 0} (read : ℕ → Option A) (f : Fault) (n : ℕ) where
   some_value : (k : ℕ) (x d : A) → read k ≡ Some x → x ≡ unwrap_or (read k) d
   some_value k x d e = rw e
 
-  pub reading_table : (i : ℕ) (table : List A) → n ≤ i → n ≤ length table → Reading i table → (d : A) → take n table ≡ entries read d n
-  reading_table i table h l r d =
-      fill_by_all (λ k. unwrap_or (read k) d) (take n table) n d (length-take-le n table l)
+  pub reading_table : (i : ℕ) (table rest : List A) → n ≤ i → length table ≡ n → Reading i table → (d : A) → take n (table ++ rest) ≡ entries read d n
+  reading_table i table rest h l r d =
+      take-append-le n table rest (omega arith)
+      ∙ fill_by_all (λ k. unwrap_or (read k) d) (take n table) n d (length-take-le n table (omega arith))
       (λ k s. get_or-take n table k d s ∙ some_value k _ d (r.1 k (omega arith) d))
 
 -- Entries that can all be read.

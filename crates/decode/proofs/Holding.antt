@@ -1,16 +1,14 @@
 -- Tables that hold what a bundle stands for, where the bundle is not refused.
-use Rattle.std.proofs.Common.{◌≡◌, ℕ, ◌+◌, ◌*◌, ◌/◌, ◌%◌, ◌<◌, ◌≤◌, true, List, length, get_or, take, drop, Option, unwrap_or, sym, ap, ◌∙◌, ap₂, arith, pow_mono}
-use Rattle.std.proofs.lemmas.List.{get_or-take}
-use Rattle.std.proofs.lemmas.Nat.{div-add-mod'}
+use Rattle.std.proofs.Common.{◌≡◌, ℕ, ◌+◌, ◌<◌, ◌≤◌, true, List, length, get_or, take, drop, Option, unwrap_or, sym, ap, ◌∙◌, ap₂, arith, pow_mono}
 use Rattle.model.specs.Core.{Core, no_word, is_flop, tally, sound, flops}
 use Rattle.design.specs.declared.tables.Tables.{Tables}
-use Rattle.decode.specs.Words.{word_count, ram_count, ram_read}
-use Rattle.decode.specs.Decode.{Parts, parts_refusal, rom_bits, ram_bits, all_nets, all_wires, core_from}
+use Rattle.decode.specs.Words.{ram_count, ram_read}
+use Rattle.decode.specs.Decode.{Parts, parts_refusal, rom_bits, ram_bits, all_nets, core_from}
+use Rattle.design.specs.Table.{items}
 use Rattle.design.specs.Tables.{core_of}
 use Rattle.decode.specs.Holds.{Holds}
-use Rattle.design.proofs.Parts.{part_of_front, rest_of_front}
 use Rattle.decode.proofs.Refusing.{Passed}
-use Rattle.decode.proofs.Sound.{nets_few, long, few_rom, few_ram, wire_number, pilots_few, starts_whole, starts_long, some_flop, sound_core}
+use Rattle.decode.proofs.Sound.{nets_few, long, few_ram, wires_long, all_pilots_long, starts_whole, starts_long, some_flop, sound_core}
 use Rattle.decode.proofs.Asking.{length_entries}
 use Rattle.model.proofs.Tallies.{tally_few}
 use Rattle.decode.proofs.Steps.{starts_fit}
@@ -32,78 +30,39 @@ module _ (t : Tables) (p : Parts) (h : Holds t p) (taken : Passed (parts_refusal
   ram_is : t.ram_bits ≡ unwrap_or (ram_bits p.ram) 0
   ram_is = sym (ap (λ (o : Option ℕ). unwrap_or o 0) h.ram_wires)
 
-  -- the starts together have as many levels as bytes
-  levels : t.start_count * t.flop_count ≡ length p.starts
-  levels =
-      let n : ℕ = length p.starts in
-      let r : n % t.flop_count ≡ 0 = ap (λ (f : ℕ). n % f) h.flop_number ∙ (starts_whole p taken).0 in
-      let s : t.start_count * t.flop_count ≡ n / t.flop_count * t.flop_count = ap (λ (m : ℕ). m * t.flop_count) h.start_number in
-      omega (arith, s, r, div-add-mod' n t.flop_count)
-
-  abbrev a : ℕ
-  a = unwrap_or (rom_bits p.rom) 0
-
-  abbrev b : ℕ
-  b = unwrap_or (ram_bits p.ram) 0
-
-  -- a part of the wires
-  wires_part : (i m : ℕ) → i + m ≤ a + b + 17 → take m (drop i t.wires) ≡ take m (drop i (all_wires p))
-  wires_part i m l =
-      part_of_front t.wires i m (word_count p.wires) (omega (arith, wire_number p taken))
-      ∙ ap (λ (ws : List ℕ). take m (drop i ws)) h.wires
-
   pub core_is : core_of t ≡ core_from p
   core_is =
-      core_same (core_of t) (core_from p) h.clock h.window h.rom_energy h.ram_energy h.write_energy
-      (ap (λ (n : ℕ). take n t.nets) h.net_number ∙ h.nets)
-      (ap (λ (n : ℕ). take n t.rom) h.rom_number ∙ h.rom)
-      (ap (λ (n : ℕ). take n t.ram) h.ram_number ∙ h.ram)
-      (ap (λ (n : ℕ). take n t.wires) rom_is ∙ wires_part 0 a (omega arith))
-      (ap₂ (λ (i n : ℕ). take n (drop i t.wires)) rom_is ram_is ∙ wires_part a b (omega arith))
-      (ap₂ (λ (i j : ℕ). get_or t.wires (i + j) 0) rom_is ram_is
-      ∙ (sym (get_or-take (word_count p.wires) t.wires (a + b) 0 (omega (arith, wire_number p taken)))
-      ∙ ap (λ (ws : List ℕ). get_or ws (a + b) 0) h.wires))
-      (ap₂ (λ (i j : ℕ). take 16 (drop (i + j + 1) t.wires)) rom_is ram_is ∙ wires_part (a + b + 1) 16 (omega arith))
-      (sym (get_or-take (word_count p.pilots) t.pilots 0 0 (omega (arith, h.pilot_number))) ∙ ap (λ (ps : List ℕ). get_or ps 0 0) h.pilots)
-      (rest_of_front t.pilots t.pilot_count (word_count p.pilots) h.pilot_number ∙ ap (drop 1) h.pilots)
-      (ap (λ (n : ℕ). take n t.starts) levels ∙ h.starts)
+      core_same (core_of t) (core_from p) h.clock h.window h.rom_energy h.ram_energy h.write_energy h.nets h.rom h.ram
+      (ap₂ (λ (n : ℕ) (ws : List ℕ). take n ws) rom_is h.wires)
+      (λ i. take (ram_is i) (drop (rom_is i) (h.wires i)))
+      (λ i. get_or (h.wires i) (rom_is i + ram_is i) 0)
+      (λ i. take 16 (drop (rom_is i + ram_is i + 1) (h.wires i)))
+      (ap (λ (ps : List ℕ). get_or ps 0 0) h.pilots)
+      (ap (drop 1) h.pilots)
+      h.starts
 
   -- ---- the facts of a design
 
-  pub net_limit : t.net_count ≤ 4096
-  net_limit = omega (arith, h.net_number, nets_few p taken)
+  pub nets_limit : length (core_of t).nets ≤ 4096
+  nets_limit = omega (arith, ap (λ (c : Core). length c.nets) core_is, long p taken, nets_few p taken)
 
-  pub rom_bits_limit : t.rom_bits ≤ 10
-  rom_bits_limit = omega (arith, rom_is, (few_rom p taken).1)
+  pub ram_limit : length (core_of t).ram ≤ 256
+  ram_limit =
+      omega (arith, ap (λ (c : Core). length c.ram) core_is, length_entries (ram_read p.ram) (ram_count p.ram) no_word, (few_ram p taken).0, pow_mono (few_ram p taken).1)
 
-  pub rom_limit : t.rom_count ≤ 1024
-  rom_limit = omega (arith, h.rom_number, (few_rom p taken).0, pow_mono (few_rom p taken).1)
+  pub wires_counted : length (items t.wires) ≡ t.rom_bits + t.ram_bits + 17
+  wires_counted = omega (arith, ap (λ (ws : List ℕ). length ws) h.wires, wires_long p taken, rom_is, ram_is)
 
-  pub ram_bits_limit : t.ram_bits ≤ 8
-  ram_bits_limit = omega (arith, ram_is, (few_ram p taken).1)
+  pub mark_there : 0 < length (items t.pilots)
+  mark_there = omega (arith, ap (λ (ps : List ℕ). length ps) h.pilots, all_pilots_long p taken)
 
-  pub ram_limit : t.ram_count ≤ 256
-  ram_limit = omega (arith, h.ram_number, (few_ram p taken).0, pow_mono (few_ram p taken).1)
-
-  pub pilot_limit : t.pilot_count ≤ 16
-  pilot_limit = omega (arith, h.pilot_number, pilots_few p taken)
+  pub starts_limit : length (core_of t).starts ≤ 32768
+  starts_limit =
+      let w = starts_whole p taken in
+      omega (arith, ap (λ (c : Core). length c.starts) core_is, starts_long p taken, starts_fit (length p.starts) (tally is_flop (all_nets p)) w.0 w.2 (omega (arith, tally_few is_flop (all_nets p), long p taken, nets_few p taken)))
 
   pub flops_counted : t.flop_count ≡ flops (core_of t)
   flops_counted = h.flop_number ∙ ap flops (sym core_is)
-
-  pub starts_limit : t.start_count * t.flop_count ≤ 32768
-  starts_limit =
-      let w = starts_whole p taken in
-      omega (arith, levels, starts_fit (length p.starts) (tally is_flop (all_nets p)) w.0 w.2 (omega (arith, tally_few is_flop (all_nets p), long p taken, nets_few p taken)))
-
-  pub nets_counted : length (core_of t).nets ≡ t.net_count
-  nets_counted = ap (λ (c : Core). length c.nets) core_is ∙ (long p taken ∙ sym h.net_number)
-
-  pub ram_counted : length (core_of t).ram ≡ t.ram_count
-  ram_counted = ap (λ (c : Core). length c.ram) core_is ∙ (length_entries (ram_read p.ram) (ram_count p.ram) no_word ∙ sym h.ram_number)
-
-  pub starts_counted : length (core_of t).starts ≡ t.start_count * t.flop_count
-  starts_counted = ap (λ (c : Core). length c.starts) core_is ∙ (starts_long p taken ∙ sym levels)
 
   pub flops_there : 0 < t.flop_count
   flops_there = omega (arith, h.flop_number, some_flop p taken)

@@ -1,6 +1,6 @@
 pub mod Asking
+pub mod Chains
 pub mod Every
-pub mod Fields
 pub mod Steps
 pub mod Refusing
 pub mod Whole

@@ -1,8 +1,8 @@
 -- What pilots that can be read are.
-use Rattle.std.proofs.Common.{◌≡◌, ℕ, ◌+◌, ◌-◌, ◌<◌, Bool, true, false, not, ◌&&◌, ◌||◌, eqb, ltb, List, map, length, get_or, take, drop, None, sym, refl, ap, ◌∙◌, arith}
+use Rattle.std.proofs.Common.{◌≡◌, ℕ, ◌+◌, ◌-◌, ◌<◌, Bool, true, false, not, ◌&&◌, ◌||◌, eqb, ltb, List, map, length, get_or, take, drop, None, sym, refl, ap, ◌∙◌, subst, arith}
 use Rattle.std.specs.List.{range_with_len}
 use Rattle.std.proofs.lemmas.Bool.{and_parts, ltb-true, ne_eqb, not-true}
-use Rattle.std.proofs.lemmas.List.{length-take, length-drop, get_or-drop, ext_get_or}
+use Rattle.std.proofs.lemmas.List.{length-drop, get_or-drop, ext_get_or}
 use Rattle.std.proofs.lemmas.List.FromFn.{get_or-map-range_with_len, length-map-range_with_len}
 use Rattle.bundle.specs.declared.refusal.Fault.{Fault}
 use Rattle.model.specs.declared.net.Net.{Net}
@@ -11,8 +11,8 @@ use Rattle.decode.specs.Entries.{first_unread}
 use Rattle.decode.specs.Words.{word, word_count}
 use Rattle.decode.specs.Pilots.{repeated, pilot_right, pilot_read}
 use Rattle.decode.specs.Decode.{pilots_of}
-use Rattle.design.proofs.Parts.{rest_of_front}
 use Rattle.decode.proofs.Asking.{entry_at, entry_read, length_entries, only_met, only_value}
+use Rattle.decode.proofs.Steps.{past_first}
 use Rattle.decode.proofs.Every.{not_among, distinct_from}
 
 module _ (nets : List Net) (bs : List ℕ) (f : Fault) (read : None ≡ first_unread (pilot_read nets bs) f (word_count bs)) (k : ℕ) (h : k < word_count bs) where
@@ -46,14 +46,6 @@ module _ (nets : List Net) (bs : List ℕ) (f : Fault) (read : None ≡ first_un
   pub pilot_new : 0 < k → repeated bs k (word bs k) ≡ false
   pilot_new l = (later l).1
 
--- the pilots of a table that was read name nets
-pub pilots_named : (nets : List Net) (bs : List ℕ) (f : Fault) → None ≡ first_unread (pilot_read nets bs) f (word_count bs) → (table : List ℕ) (m : ℕ) → m + 1 ≡ word_count bs → take (word_count bs) table ≡ pilots_of nets bs → (k : ℕ) → k < length (take m (drop 1 table)) → get_or (take m (drop 1 table)) k 0 < length nets
-pilots_named nets bs f read table m e t k h =
-    let l : k < m = omega (arith, length-take m (drop 1 table)) in
-    let a : get_or (take m (drop 1 table)) k 0 ≡ get_or (pilots_of nets bs) (1 + k) 0
-    = ap (λ (xs : List ℕ). get_or xs k 0) (rest_of_front table m (word_count bs) e ∙ ap (drop 1) t) ∙ get_or-drop 1 (pilots_of nets bs) k 0 in
-    omega (arith, pilot_names nets bs f read (1 + k) (omega arith))
-
 -- the pilots, past the mark
 module _ (nets : List Net) (bs : List ℕ) (f : Fault) (read : None ≡ first_unread (pilot_read nets bs) f (word_count bs)) where
   pub length_pilots : length (drop 1 (pilots_of nets bs)) ≡ word_count bs - 1
@@ -66,6 +58,13 @@ module _ (nets : List Net) (bs : List ℕ) (f : Fault) (read : None ≡ first_un
         omega (arith, pilot_names nets bs f read (1 + k) l),
         ap (λ (x : ℕ). is_flop (get_or nets x no_net).driver) e ∙ pilot_flop nets bs f read (1 + k) l (omega arith),
       )
+
+  -- the same of a slice past the mark
+  pub pilots_named : (ps : List ℕ) → ps ≡ pilots_of nets bs → (k : ℕ) → k < length (take (length ps - 1) (drop 1 ps)) → get_or (take (length ps - 1) (drop 1 ps)) k 0 < length nets
+  pilots_named ps e k h =
+      let r : take (length ps - 1) (drop 1 ps) ≡ drop 1 (pilots_of nets bs) = past_first ps ∙ ap (drop 1) e in
+      let n = each_pilot k (subst (λ (xs : List ℕ). k < length xs) r h) in
+      omega (arith, ap (λ (xs : List ℕ). get_or xs k 0) r, n.0)
 
   pilots_are : drop 1 (pilots_of nets bs) ≡ map (word bs) (range_with_len 1 (word_count bs - 1))
   pilots_are =

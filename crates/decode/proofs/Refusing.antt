@@ -5,7 +5,9 @@ use Rattle.std.proofs.lemmas.Bool.{and_parts, leb-true}
 use Rattle.bundle.specs.declared.refusal.Fault.{Fault}
 use Rattle.bundle.specs.declared.refusal.Refusal.{Refusal}
 use Rattle.bundle.specs.Format.{ask, first_refusal}
-use Rattle.decode.specs.Entries.{refusal_in, first_unread, counted}
+use Rattle.std.specs.Option.{ok_or}
+use Rattle.std.specs.Result.{result_err}
+use Rattle.decode.specs.Entries.{first_unread, counted}
 
 abbrev pub Passed : Option Refusal → Type 0
 Passed o = None ≡ o
@@ -22,15 +24,6 @@ pub last_asked : (o : Option Refusal) → o ≡ first_refusal (o ∷ [])
 last_asked None = refl
 last_asked (Some r) = refl
 
--- one that is answered no ends it
-pub stopped : (o : Option Refusal) (rest : List (Option Refusal)) (r : Refusal) → Some r ≡ o → Some r ≡ first_refusal (o ∷ rest)
-stopped o rest r e = ap (λ (x : Option Refusal). first_refusal (x ∷ rest)) e
-
-pub stopped_in_two : (o q : Option Refusal) (rest : List (Option Refusal)) (r : Refusal) → Some r ≡ first_refusal (o ∷ (q ∷ [])) → Some r ≡ first_refusal (o ∷ (q ∷ rest))
-stopped_in_two (Some x) q rest r e = e
-stopped_in_two None (Some x) rest r e = e
-stopped_in_two None None rest r e = let z : ◌≡◌ {A = ℕ} 0 1 = cc in absurd (omega arith)
-
 pub both_passed : (o q : Option Refusal) → Passed (first_refusal (o ∷ (q ∷ []))) → Passed o × Passed q
 both_passed (Some x) q e = let z : ◌≡◌ {A = ℕ} 0 1 = cc in absurd (omega arith)
 both_passed None (Some x) e = let z : ◌≡◌ {A = ℕ} 0 1 = cc in absurd (omega arith)
@@ -46,9 +39,14 @@ counted_yes least most read f n e =
     let t = and_parts (leb least n) (leb n most) (asked_yes (leb least n && leb n most) f h.0) in
     (leb-true least n t.0, leb-true n most t.1, h.1)
 
+-- `ok_or` fails where there is nothing
+pub none_from_err : {T E : Type 0} (o : Option T) (e x : E) → ok_or o e ≡ Err x → (o ≡ None) × (x ≡ e)
+none_from_err None e x h = (refl, cc)
+none_from_err (Some t) e x h = let z : ◌≡◌ {A = ℕ} 0 1 = cc in absurd (omega arith)
+
 -- what a call that hands a refusal on has refused
-pub handed_on : {T : Type 0} (res : Result T Refusal) (y r : Refusal) (o : Option Refusal) → res ≡ Err y → y ≡ r → Some r ≡ o → refusal_in res ≡ o
-handed_on res y r o e d h = ap refusal_in e ∙ (ap (λ (x : Refusal). Some x) d ∙ h)
+pub handed_on : {T : Type 0} (res : Result T Refusal) (y r : Refusal) (o : Option Refusal) → res ≡ Err y → y ≡ r → Some r ≡ o → result_err res ≡ o
+handed_on res y r o e d h = ap result_err e ∙ (ap (λ (x : Refusal). Some x) d ∙ h)
 
 -- where none is refused, each question is answered yes
 pub each_passed : (os : List (Option Refusal)) → Passed (first_refusal os) → AllByRecursion Passed os

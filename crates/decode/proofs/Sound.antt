@@ -1,8 +1,8 @@
 -- A bundle that is not refused stands for a sound core.
-use Rattle.std.proofs.Common.{◌≡◌, ℕ, ◌+◌, ◌-◌, ◌*◌, ◌/◌, ◌%◌, ◌^◌, ◌<◌, ◌≤◌, Bool, true, false, cond, ◌&&◌, eqb, ltb, leb, List, map, length, get_or, take, drop, is_some, Some, None, Option, unwrap_or, sym, refl, ap, ◌∙◌, subst, arith}
+use Rattle.std.proofs.Common.{◌≡◌, ℕ, ◌+◌, ◌-◌, ◌*◌, ◌/◌, ◌%◌, ◌^◌, ◌<◌, ◌≤◌, Bool, true, false, cond, ◌&&◌, eqb, ltb, List, map, length, get_or, take, drop, is_some, Some, None, Option, unwrap_or, sym, refl, ap, ◌∙◌, subst, arith}
 use Rattle.std.specs.List.{AllByRecursion}
 use Rattle.std.proofs.lemmas.List.{length-take-le, length-drop}
-use Rattle.std.proofs.lemmas.Bool.{and_parts, and_from, lt-ltb, ltb-true, le-leb, leb-true, eq-eqb, eqb-true}
+use Rattle.std.proofs.lemmas.Bool.{and_parts, and_from, lt-ltb, ltb-true, le-leb, eq-eqb}
 use Rattle.std.proofs.lemmas.Nat.{mul-add-lt, mod-mul-add, div-add-mod'}
 use Rattle.levels.specs.declared.Tri.{Tri}
 use Rattle.levels.specs.declared.Tri.TheVariants.{Zero, One, X}
@@ -18,7 +18,7 @@ use Rattle.decode.specs.Decode.{Parts, parts_refusal, cells_of, rom_bits, ram_bi
 use Rattle.decode.proofs.Asking.{entry_at, entry_read, length_entries, only_met, only_value}
 use Rattle.decode.proofs.Every.{every_from, every_take, every_drop, all_below_from, among_map}
 use Rattle.decode.proofs.Refusing.{Passed, each_passed, asked_yes, both_passed, counted_yes}
-use Rattle.decode.proofs.Steps.{flop_place}
+use Rattle.decode.proofs.Steps.{flop_place, whole_parts}
 use Rattle.decode.proofs.Whole.{questions, rom_few, ram_few}
 use Rattle.decode.proofs.NetFacts.{each_net_sound}
 use Rattle.decode.proofs.PilotFacts.{pilot_names, length_pilots, each_pilot, pilots_distinct}
@@ -74,7 +74,7 @@ module _ (p : Parts) (taken : Passed (parts_refusal p)) where
       let t = and_parts (is_some (rom_bits p.rom)) (is_some (ram_bits p.ram)) (asked_yes _ fault.Words h.0) in
       (some_of (rom_bits p.rom) t.0, some_of (ram_bits p.ram) t.1)
 
-  pub few_rom : (word_count p.rom ≡ 2 ^ a) × (a ≤ 10)
+  few_rom : (word_count p.rom ≡ 2 ^ a) × (a ≤ 10)
   few_rom = rom_few p a b both_bits.0 both_bits.1
 
   pub few_ram : (ram_count p.ram ≡ 2 ^ b) × (b ≤ 8)
@@ -83,10 +83,7 @@ module _ (p : Parts) (taken : Passed (parts_refusal p)) where
   wires_read : (a + b + 17 ≤ word_count p.wires) × (word_count p.wires ≤ a + b + 17) × Passed (first_unread (wire_read (net_count p.nets) p.wires) fault.Wires (word_count p.wires))
   wires_read = counted_yes (a + b + 17) (a + b + 17) (wire_read (net_count p.nets) p.wires) fault.Wires (word_count p.wires) asked.1.1.1.1.0
 
-  pub wire_number : word_count p.wires ≡ a + b + 17
-  wire_number = omega (arith, wires_read.0, wires_read.1)
-
-  wires_long : length (all_wires p) ≡ a + b + 17
+  pub wires_long : length (all_wires p) ≡ a + b + 17
   wires_long = omega (arith, length_entries (wire_read (net_count p.nets) p.wires) (word_count p.wires) 0, wires_read.0, wires_read.1)
 
   abbrev Named : ℕ → Bool
@@ -132,8 +129,8 @@ module _ (p : Parts) (taken : Passed (parts_refusal p)) where
   pilots_read : (2 ≤ word_count p.pilots) × (word_count p.pilots ≤ 17) × Passed (first_unread (pilot_read (all_nets p) p.pilots) fault.Pilots (word_count p.pilots))
   pilots_read = counted_yes 2 17 (pilot_read (all_nets p) p.pilots) fault.Pilots (word_count p.pilots) asked.1.1.1.1.1.0
 
-  pub pilots_few : word_count p.pilots ≤ 17
-  pilots_few = pilots_read.1
+  pub all_pilots_long : 0 < length (all_pilots p)
+  all_pilots_long = omega (arith, length_entries (pilot_read (all_nets p) p.pilots) (word_count p.pilots) 0, pilots_read.0)
 
   pilots_long : length (drop 1 (all_pilots p)) ≡ word_count p.pilots - 1
   pilots_long = length_pilots (all_nets p) p.pilots fault.Pilots pilots_read.2
@@ -169,10 +166,7 @@ module _ (p : Parts) (taken : Passed (parts_refusal p)) where
       (asked_yes (whole_starts Flops (length p.starts)) fault.Starts h.0, h.1)
 
   pub starts_whole : (length p.starts % Flops ≡ 0) × (0 < length p.starts) × (length p.starts / Flops ≤ 8)
-  starts_whole =
-      let t = and_parts (eqb (length p.starts % Flops) 0 && ltb 0 (length p.starts)) (leb (length p.starts / Flops) 8) starts_read.0 in
-      let u = and_parts (eqb (length p.starts % Flops) 0) (ltb 0 (length p.starts)) t.0 in
-      (eqb-true _ 0 u.0, ltb-true 0 _ u.1, leb-true _ 8 t.1)
+  starts_whole = whole_parts Flops (length p.starts) starts_read.0
 
   pub starts_long : length (entries Start X (length p.starts)) ≡ length p.starts
   starts_long = length_entries Start (length p.starts) X

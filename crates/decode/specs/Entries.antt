@@ -1,5 +1,5 @@
 -- Entries that are read one by one, and what the reading of all of them answers. Assumes nothing.
-use Rattle.std.specs.Prelude.{ℕ, Bool, true, false, ◌&&◌, List, [], ◌∷◌, map, is_some, Some, None, Ok, Err, Option, Result, nat_le}
+use Rattle.std.specs.Prelude.{◌≡◌, ℕ, ◌<◌, Bool, true, false, ◌&&◌, List, [], ◌∷◌, map, is_some, Some, None, Option, nat_le}
 use Rattle.std.specs.List.{range_with_len}
 use Rattle.std.specs.Option.{unwrap_or}
 use Rattle.bundle.specs.declared.refusal.Fault.{Fault}
@@ -10,10 +10,9 @@ abbrev pub only_if : {A : Type 0} → Bool → A → Option A
 only_if true x = Some x
 only_if false x = None
 
--- what a call refused, if it did
-abbrev pub refusal_in : {A : Type 0} → Result A Refusal → Option Refusal
-refusal_in (Ok x) = None
-refusal_in (Err e) = Some e
+-- a closure reads each of n entries, by its number, as `reads` says
+pub record Reads {F T : Type 0} (post : F → ℕ → Option T → Type 0) (read : F) (reads : ℕ → Option T) (n : ℕ) : Type 0 where
+  pub each : (i : ℕ) → i < n → (o : Option T) → post read i o → o ≡ reads i
 
 -- the first of n entries that cannot be read
 abbrev pub first_unread : {A : Type 0} → (ℕ → Option A) → Fault → ℕ → Option Refusal

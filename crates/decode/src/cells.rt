@@ -1,8 +1,7 @@
 ghost use Rattle.std.specs.Prelude.{◌≡◌, ◌+◌, ◌<◌, length};
+ghost use Rattle.std.specs.Result.{result_ok};
 ghost use Rattle.bundle.specs.Format.{two_bytes};
 ghost use Rattle.decode.specs.Cells.{use_of, cell_right, cell_count, cell_read};
-
-use crate::entries::Entries;
 
 // What a cell is for.
 #[derive(Clone, Copy)]
@@ -31,21 +30,29 @@ pub(crate) fn two_bytes(bytes: &[u8], at: usize) -> u16
     requires { at + 1 < length bytes.now }
     ensures { result ≡ two_bytes bytes.now at }
 {
-    bytes[at] as u16 + 256 * bytes[at + 1] as u16
+    u16::from_le_bytes([bytes[at], bytes[at + 1]])
 }
 
-fn use_of(number: u8) -> Option<Use>
-    ensures { result ≡ use_of number }
-{
-    match number {
-        0 => Some(Use::Gate),
-        1 => Some(Use::Flop),
-        2 => Some(Use::EnabledFlop),
-        3 => Some(Use::Input),
-        4 => Some(Use::MemoryBit),
-        5 => Some(Use::Constant(false)),
-        6 => Some(Use::Constant(true)),
-        _ => None,
+// A number that stands for no use.
+#[derive(Clone, Copy)]
+pub struct UnknownUse;
+
+impl TryFrom<u8> for Use {
+    type Error = UnknownUse;
+
+    ghost try_from_gives = { λ number r. result_ok r ≡ use_of number };
+
+    fn try_from(number: u8) -> Result<Use, UnknownUse> {
+        match number {
+            0 => Ok(Use::Gate),
+            1 => Ok(Use::Flop),
+            2 => Ok(Use::EnabledFlop),
+            3 => Ok(Use::Input),
+            4 => Ok(Use::MemoryBit),
+            5 => Ok(Use::Constant(false)),
+            6 => Ok(Use::Constant(true)),
+            _ => Err(UnknownUse),
+        }
     }
 }
 
@@ -67,41 +74,24 @@ fn cell_right(usage: Use, pins: u8, truth: u16) -> bool
     }
 }
 
-// The cells of a bundle: ten bytes each.
-#[derive(Clone, Copy)]
-pub(crate) struct CellBody<'a> {
-    pub bytes: &'a [u8],
-}
-
-impl Entries for CellBody<'_> {
-    type Entry = Cell;
-
-    ghost size = { λ b. cell_count b.bytes.now };
-
-    ghost reads = { λ b. cell_read b.bytes.now };
-
-    fn count(&self) -> usize {
-        self.bytes.len() / 10
-    }
-
-    fn read(&self, i: usize) -> Option<Cell> {
-        let at = 10 * i;
-        let usage = use_of(self.bytes[at + 1])?;
-        let pins = self.bytes[at];
-        let truth = two_bytes(self.bytes, at + 2);
-        if !cell_right(usage, pins, truth) {
-            return None;
-        }
-        let rise = two_bytes(self.bytes, at + 4);
-        let fall = two_bytes(self.bytes, at + 6);
-        let idle = two_bytes(self.bytes, at + 8);
-        Some(Cell {
-            usage,
-            pins,
-            truth,
-            rise,
-            fall,
-            idle,
-        })
-    }
+// The cell with this number: ten bytes.
+pub(crate) fn read_cell(bytes: &[u8], i: usize) -> Option<Cell>
+    requires { i < cell_count bytes.now }
+    ensures { result ≡ cell_read bytes.now i }
+{
+    let at = 10 * i;
+    let usage = Use::try_from(bytes[at + 1]).ok()?;
+    let pins = bytes[at];
+    let truth = two_bytes(bytes, at + 2);
+    let rise = two_bytes(bytes, at + 4);
+    let fall = two_bytes(bytes, at + 6);
+    let idle = two_bytes(bytes, at + 8);
+    cell_right(usage, pins, truth).then_some(Cell {
+        usage,
+        pins,
+        truth,
+        rise,
+        fall,
+        idle,
+    })
 }

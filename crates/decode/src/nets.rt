@@ -2,10 +2,10 @@ ghost use Rattle.std.specs.Prelude.{◌≡◌, ◌<◌, slice_index};
 ghost use Rattle.decode.specs.Nets.{gate_use, gate_cell, fields_right, memory_bit, net_count, pin_fields, cell_of, pin_right, driver_read, net_read};
 
 use crate::cells::{Cell, Use, two_bytes};
-use crate::entries::Entries;
 use model::{Driver, Gate, Net};
 
 // The nets of a bundle, ten bytes each, whose cells are known.
+// Why by number: a pin names another net by its number, and that net's cell is then read, so nets are not read by `chunks_exact`.
 #[derive(Clone, Copy)]
 pub(crate) struct NetBody<'a> {
     pub cells: &'a [Cell],
@@ -13,17 +13,27 @@ pub(crate) struct NetBody<'a> {
 }
 
 impl NetBody<'_> {
+    pub(crate) fn read(&self, i: usize) -> Option<Net>
+        requires { i < net_count self.now.bytes.now }
+        ensures { result ≡ net_read self.now.cells.now self.now.bytes.now i }
+    {
+        let cell = self.cell_of(i)?;
+        let driver = self.driver(i, cell)?;
+        Some(Net {
+            driver,
+            rise: cell.rise,
+            fall: cell.fall,
+            idle: cell.idle,
+        })
+    }
+
     // The cell of net i.
     fn cell_of(&self, i: usize) -> Option<Cell>
         requires { i < net_count self.now.bytes.now }
         ensures { result ≡ cell_of self.now.cells.now self.now.bytes.now i }
     {
         let number = two_bytes(self.bytes, 10 * i) as usize;
-        if number < self.cells.len() {
-            Some(self.cells[number])
-        } else {
-            None
-        }
+        self.cells.get(number).copied()
     }
 
     fn pin_fields(&self, i: usize) -> [u16; 4]
@@ -43,10 +53,7 @@ impl NetBody<'_> {
         ensures { result ≡ pin_right self.now.cells.now self.now.bytes.now usage i p }
     {
         let p = p as usize;
-        if p >= self.bytes.len() / 10 {
-            return false;
-        }
-        !gate_use(usage) || p < i || !gate_cell(self.cell_of(p))
+        p < self.bytes.len() / 10 && (!gate_use(usage) || p < i || !gate_cell(self.cell_of(p)))
     }
 
     // Whether the pins of net i may name these nets: as many as its cell has, and 0 past them.
@@ -54,17 +61,11 @@ impl NetBody<'_> {
         ensures { result ≡ fields_right (pin_right self.now.cells.now self.now.bytes.now cell.usage i) cell.pins fields.now }
     {
         let pins = cell.pins as usize;
-        for (k, field) in fields.iter().enumerate() {
-            let right = if k < pins {
-                self.pin_right(cell.usage, i, *field)
-            } else {
-                *field == 0
-            };
-            if !right {
-                return false;
-            }
-        }
-        true
+        let used = fields
+            .iter()
+            .take(pins)
+            .all(|p| self.pin_right(cell.usage, i, *p));
+        used && fields.iter().skip(pins).all(|p| *p == 0)
     }
 
     fn driver(&self, i: usize, cell: Cell) -> Option<Driver>
@@ -87,53 +88,20 @@ impl NetBody<'_> {
             Use::MemoryBit => return memory_bit(fields),
             Use::Constant(bit) => Driver::Constant { bit },
         };
-        if self.fields_right(i, cell, &fields) {
-            Some(driver)
-        } else {
-            None
-        }
-    }
-}
-
-impl Entries for NetBody<'_> {
-    type Entry = Net;
-
-    ghost size = { λ b. net_count b.bytes.now };
-
-    ghost reads = { λ b. net_read b.cells.now b.bytes.now };
-
-    fn count(&self) -> usize {
-        self.bytes.len() / 10
-    }
-
-    fn read(&self, i: usize) -> Option<Net> {
-        let cell = self.cell_of(i)?;
-        let driver = self.driver(i, cell)?;
-        Some(Net {
-            driver,
-            rise: cell.rise,
-            fall: cell.fall,
-            idle: cell.idle,
-        })
+        self.fields_right(i, cell, &fields).then_some(driver)
     }
 }
 
 fn gate_use(usage: Use) -> bool
     ensures { result ≡ gate_use usage }
 {
-    match usage {
-        Use::Gate => true,
-        _ => false,
-    }
+    matches!(usage, Use::Gate)
 }
 
 fn gate_cell(cell: Option<Cell>) -> bool
     ensures { result ≡ gate_cell cell }
 {
-    match cell {
-        Some(cell) => gate_use(cell.usage),
-        None => false,
-    }
+    cell.is_some_and(|cell| gate_use(cell.usage))
 }
 
 fn memory_bit(fields: [u16; 4]) -> Option<Driver>

@@ -1,153 +1,155 @@
-ghost use Rattle.std.specs.Prelude.{◌≡◌, ℕ, ◌+◌, ◌<◌, ◌≤◌, [], ◌∷◌, length, take, IfOk, Some, None, OnOk, slice_index};
-ghost use Rattle.model.specs.Core.{is_flop, tally};
+ghost use Rattle.std.specs.Prelude.{◌≡◌, ℕ, ◌+◌, ◌<◌, ◌≤◌, [], ◌∷◌, true, length, IfOk, Some, slice_index};
+ghost use Rattle.std.specs.Result.{result_err};
 ghost use Rattle.bundle.specs.Format.{first_refusal};
-ghost use Rattle.decode.specs.Entries.{refusal_in};
-ghost use Rattle.decode.specs.Nets.{net_count};
-ghost use Rattle.decode.specs.Words.{word_count, ram_count};
-ghost use Rattle.decode.specs.Decode.{figures_refusal, cells_refusal, nets_refusal, nets_of, words_refusal, rom_bits, ram_bits, rom_of, ram_of, wires_refusal, wires_of, pilots_refusal, pilots_of, starts_refusal, starts_of};
+ghost use Rattle.design.specs.Table.{items};
+ghost use Rattle.decode.specs.Decode.{figures_refusal, cells_of, cells_refusal, nets_refusal, nets_of, words_refusal, rom_bits, ram_bits, rom_of, ram_of, wires_refusal, wires_of, pilots_refusal, pilots_of, whole_starts, starts_refusal, starts_of};
 
-use crate::cells::{Cell, CellBody, Use};
-use crate::entries::{Entries, read_all, read_counted};
+use crate::cells::{Cell, Use, read_cell};
+use crate::entries::read_all;
 use crate::nets::NetBody;
-use crate::pilots::PilotBody;
-use crate::starts::{StartBody, place_pilots};
-use crate::words::{RamBody, RomBody, WireBody, address_bits};
-use bundle::{Fault, Refusal};
+use crate::pilots::{count_flops, pilot};
+use crate::starts::{flop_places, start};
+use crate::words::{address_bits, ram_word, wire, word};
+use bundle::{Fault, Refusal, ask};
+use design::Table;
 use levels::Tri;
-use model::{Net, RamWord};
+use model::{Driver, Net, RamWord};
+
+// What stands for an entry that is not read yet.
+const NO_CELL: Cell = Cell {
+    usage: Use::Constant(false),
+    pins: 0,
+    truth: 0,
+    rise: 0,
+    fall: 0,
+    idle: 0,
+};
+
+const NO_NET: Net = Net {
+    driver: Driver::Constant { bit: false },
+    rise: 0,
+    fall: 0,
+    idle: 0,
+};
+
+const NO_WORD: RamWord = RamWord {
+    value: 0,
+    unknown: 0,
+};
 
 // Asks whether the clock and the window are in range.
 pub(crate) fn ask_figures(clock: u16, window: u16) -> Result<(), Refusal>
-    ensures { refusal_in result ≡ figures_refusal clock window }
+    ensures { result_err result ≡ figures_refusal clock window }
 {
-    if clock == 0 || clock > 200 || window == 0 {
-        return Err(Refusal {
-            fault: Fault::Figures,
-            place: 0,
-        });
-    }
-    Ok(())
+    ask((1..=200).contains(&clock) && window != 0, Fault::Figures)
 }
 
-// Reads the nets, by the cells that they are outputs of.
-pub(crate) fn read_nets(cells: &[u8], nets: &[u8], table: &mut [Net]) -> Result<(), Refusal>
-    requires { 4096 ≤ length table.old }
-    ensures refusal { refusal_in result ≡ first_refusal (cells_refusal cells.now ∷ (nets_refusal cells.now nets.now ∷ [])) }
-    ensures table { refusal_in result ≡ None → take (net_count nets.now) table.new ≡ nets_of cells.now nets.now }
+// The cells that nets are outputs of.
+fn read_cells(bytes: &[u8]) -> Result<Table<Cell, 64>, Refusal>
+    ensures refusal { result_err result ≡ cells_refusal bytes.now }
+    ensures items { IfOk result (λ t. items t ≡ cells_of bytes.now) }
 {
-    let mut library = [Cell {
-        usage: Use::Input,
-        pins: 0,
-        truth: 0,
-        rise: 0,
-        fall: 0,
-        idle: 0,
-    }; 64];
-    let body = CellBody { bytes: cells };
-    read_counted(&body, Fault::Cells, 1, 64, &mut library)?;
-    let count = body.count();
-    read_counted(
-        &NetBody {
-            cells: &library[0..count],
-            bytes: nets,
-        },
-        Fault::Nets,
-        1,
-        4096,
-        table,
-    )
+    let count = bytes.len() / 10;
+    ask(1 <= count && count <= 64, Fault::Cells)?;
+    read_all(NO_CELL, count, Fault::Cells, |i| read_cell(bytes, i))
 }
 
-// Reads both memories, and answers how many address bits each has.
-pub(crate) fn read_words(
-    rom: &[u8],
-    ram: &[u8],
-    rom_table: &mut [u16],
-    ram_table: &mut [RamWord],
-) -> Result<(usize, usize), Refusal>
-    requires { (1024 ≤ length rom_table.old) × (256 ≤ length ram_table.old) }
-    ensures refusal { refusal_in result ≡ words_refusal rom.now ram.now }
-    ensures bits { IfOk result (λ p. (rom_bits rom.now ≡ Some p.0) × (ram_bits ram.now ≡ Some p.1)) }
-    ensures rom_table { OnOk result (take (word_count rom.now) rom_table.new ≡ rom_of rom.now) }
-    ensures ram_table { OnOk result (take (ram_count ram.now) ram_table.new ≡ ram_of ram.now) }
+// The nets, by the cells that they are outputs of.
+pub(crate) fn read_nets(cells: &[u8], nets: &[u8]) -> Result<Table<Net, 4096>, Refusal>
+    ensures refusal { result_err result ≡ first_refusal (cells_refusal cells.now ∷ (nets_refusal cells.now nets.now ∷ [])) }
+    ensures items { IfOk result (λ t. items t ≡ nets_of cells.now nets.now) }
 {
-    let rom_body = RomBody { bytes: rom };
-    let ram_body = RamBody { bytes: ram };
-    let (Some(rom_bits), Some(ram_bits)) = (
-        address_bits(rom_body.count(), 10),
-        address_bits(ram_body.count(), 8),
-    ) else {
-        return Err(Refusal {
-            fault: Fault::Words,
-            place: 0,
-        });
+    let cells = read_cells(cells)?;
+    let count = nets.len() / 10;
+    ask(1 <= count && count <= 4096, Fault::Nets)?;
+    let body = NetBody {
+        cells: cells.as_slice(),
+        bytes: nets,
     };
-    read_all(&rom_body, Fault::Words, rom_table)?;
-    read_all(&ram_body, Fault::Words, ram_table)?;
-    Ok((rom_bits, ram_bits))
+    read_all(NO_NET, count, Fault::Nets, |i| body.read(i))
 }
 
-// Reads the wires of memories with so many address bits, which name some of so many nets.
-pub(crate) fn read_wires(
-    nets: usize,
-    bits: usize,
-    bytes: &[u8],
-    table: &mut [u16],
-) -> Result<(), Refusal>
-    requires { bits + 17 ≤ length table.old }
-    ensures refusal { refusal_in result ≡ wires_refusal nets bits bytes.now }
-    ensures table { refusal_in result ≡ None → take (word_count bytes.now) table.new ≡ wires_of nets bytes.now }
+// Both memories, and how many address bits each has.
+#[derive(Clone, Copy)]
+pub(crate) struct Memories {
+    pub rom_bits: usize,
+    pub rom: Table<u16, 1024>,
+    pub ram_bits: usize,
+    pub ram: Table<RamWord, 256>,
+}
+
+pub(crate) fn read_memories(rom: &[u8], ram: &[u8]) -> Result<Memories, Refusal>
+    ensures refusal { result_err result ≡ words_refusal rom.now ram.now }
+    ensures bits { IfOk result (λ m. (rom_bits rom.now ≡ Some m.rom_bits) × (ram_bits ram.now ≡ Some m.ram_bits)) }
+    ensures items { IfOk result (λ m. (items m.rom ≡ rom_of rom.now) × (items m.ram ≡ ram_of ram.now)) }
 {
-    let count = bits + 17;
-    read_counted(&WireBody { nets, bytes }, Fault::Wires, count, count, table)
+    let refusal = Refusal {
+        fault: Fault::Words,
+        place: 0,
+    };
+    let rom_bits = address_bits(rom.len() / 2, 10).ok_or(refusal)?;
+    let ram_bits = address_bits(ram.len() / 4, 8).ok_or(refusal)?;
+    let rom = read_all(0, rom.len() / 2, Fault::Words, |i| Some(word(rom, i)))?;
+    let ram = read_all(NO_WORD, ram.len() / 4, Fault::Words, |i| ram_word(ram, i))?;
+    Ok(Memories {
+        rom_bits,
+        rom,
+        ram_bits,
+        ram,
+    })
 }
 
-// Reads the mark and the pilots.
-pub(crate) fn read_pilots<'a>(
-    nets: &'a [Net],
-    bytes: &'a [u8],
-    table: &mut [u16],
-) -> Result<(), Refusal>
-    requires { 17 ≤ length table.old }
-    ensures refusal { refusal_in result ≡ pilots_refusal nets.now bytes.now }
-    ensures table { refusal_in result ≡ None → take (word_count bytes.now) table.new ≡ pilots_of nets.now bytes.now }
+// The wires of memories with so many address bits, which name some of so many nets.
+pub(crate) fn read_wires(nets: usize, bits: usize, bytes: &[u8]) -> Result<Table<u16, 35>, Refusal>
+    requires { bits + 17 ≤ 35 }
+    ensures refusal { result_err result ≡ wires_refusal nets bits bytes.now }
+    ensures items { IfOk result (λ t. items t ≡ wires_of nets bytes.now) }
 {
-    read_counted(&PilotBody { nets, bytes }, Fault::Pilots, 2, 17, table)
+    let count = bytes.len() / 2;
+    ask(bits + 17 <= count && count <= bits + 17, Fault::Wires)?;
+    read_all(0, count, Fault::Wires, |i| wire(nets, bytes, i))
 }
 
-// Reads the starts, which have a byte for each of the flops.
+// The mark and the pilots.
+pub(crate) fn read_pilots(nets: &[Net], bytes: &[u8]) -> Result<Table<u16, 17>, Refusal>
+    ensures refusal { result_err result ≡ pilots_refusal nets.now bytes.now }
+    ensures items { IfOk result (λ t. items t ≡ pilots_of nets.now bytes.now) }
+    ensures mark { IfOk result (λ t. 0 < length (items t)) }
+{
+    let count = bytes.len() / 2;
+    ask(2 <= count && count <= 17, Fault::Pilots)?;
+    read_all(0, count, Fault::Pilots, |i| pilot(nets, bytes, i))
+}
+
+// Whether so many levels are one to eight whole starts.
+fn whole_starts(flops: usize, levels: usize) -> bool
+    ensures whole { result ≡ whole_starts flops levels }
+    ensures some { result ≡ true → 0 < flops }
+{
+    flops != 0 && levels % flops == 0 && levels != 0 && levels / flops <= 8
+}
+
+// The starts, which have a byte for each of the flops.
 pub(crate) fn read_starts(
     nets: &[Net],
-    flops: usize,
     pilots: &[u16],
     bytes: &[u8],
-    table: &mut [Tri],
-) -> Result<(), Refusal>
+) -> Result<Table<Tri, 32768>, Refusal>
     requires few_nets { length nets.now ≤ 4096 }
-    requires room { 32768 ≤ length table.old }
-    requires counted { flops ≡ tally is_flop nets.now }
     requires few_pilots { length pilots.now ≤ 16 }
     requires named { (k : ℕ) → k < length pilots.now → slice_index pilots.now k < length nets.now }
-    ensures refusal { refusal_in result ≡ starts_refusal nets.now pilots.now bytes.now }
-    ensures table { refusal_in result ≡ None → take (length bytes.now) table.new ≡ starts_of nets.now pilots.now bytes.now }
+    ensures refusal { result_err result ≡ starts_refusal nets.now pilots.now bytes.now }
+    ensures items { IfOk result (λ t. items t ≡ starts_of nets.now pilots.now bytes.now) }
 {
+    let flops = count_flops(nets);
     let count = bytes.len();
-    if flops == 0 || count % flops != 0 || count == 0 || count / flops > 8 {
-        return Err(Refusal {
-            fault: Fault::Starts,
-            place: 0,
-        });
-    }
-    let mut places = [0; 16];
-    place_pilots(nets, pilots, &mut places);
-    let n = pilots.len();
+    ask(whole_starts(flops, count), Fault::Starts)?;
+    let places = flop_places(nets, pilots);
+    let places = places.as_slice();
     read_all(
-        &StartBody {
-            flops,
-            pilots: &places[0..n],
-            bytes,
-        },
+        Tri::X,
+        count,
         Fault::Starts,
-        table,
+        |i| start(flops, places, bytes, i),
     )
 }

@@ -2,8 +2,10 @@
 #![tactic(auto)]
 
 mod design;
+mod table;
 mod tables;
 mod views;
 
 pub use design::Design;
+pub use table::Table;
 pub use tables::Tables;

@@ -1,8 +1,8 @@
+use crate::table::Table;
 use levels::Tri;
 use model::{Net, RamWord};
 
-// The tables of a design. Each is an array of the most that a bundle may hold, of which the count beside it says how many
-// stand for the tag; the rest are unused.
+// The tables of a design, each with room for the most that a bundle may hold.
 #[derive(Clone, Copy)]
 pub struct Tables {
     pub clock: u16,
@@ -10,20 +10,16 @@ pub struct Tables {
     pub rom_energy: u16,
     pub ram_energy: u16,
     pub write_energy: u16,
-    pub net_count: usize,
-    pub nets: [Net; 4096],
+    pub nets: Table<Net, 4096>,
     pub rom_bits: usize,
-    pub rom_count: usize,
-    pub rom: [u16; 1024],
+    pub rom: Table<u16, 1024>,
     pub ram_bits: usize,
-    pub ram_count: usize,
-    pub ram: [RamWord; 256],
+    pub ram: Table<RamWord, 256>,
     // the ROM address nets, the RAM address nets, the write enable and 16 data nets
-    pub wires: [u16; 35],
+    pub wires: Table<u16, 35>,
     // the mark, then the pilots
-    pub pilot_count: usize,
-    pub pilots: [u16; 17],
+    pub pilots: Table<u16, 17>,
     pub flop_count: usize,
-    pub start_count: usize,
-    pub starts: [Tri; 32768],
+    // one start after the other, each with a level for each flop
+    pub starts: Table<Tri, 32768>,
 }

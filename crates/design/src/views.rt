@@ -1,8 +1,10 @@
-ghost use Rattle.std.specs.Prelude.{◌≡◌, ◌/◌, length};
+ghost use Rattle.std.specs.Prelude.{◌≡◌, ◌/◌, ◌≤◌, length, replicate};
 ghost use Rattle.model.specs.Core.{places, flops};
+ghost use Rattle.design.specs.Table.{items};
 ghost use Rattle.design.specs.Views.{core, smallest};
 
 use crate::design::Design;
+use crate::table::Table;
 use crate::tables::Tables;
 use levels::Tri;
 use model::{Driver, Net, RamWord};
@@ -18,29 +20,25 @@ impl Design {
             fall: 0,
             idle: 0,
         };
+        let word = RamWord {
+            value: 0,
+            unknown: 0,
+        };
         let tables = Tables {
             clock: 1,
             window: 1,
             rom_energy: 0,
             ram_energy: 0,
             write_energy: 0,
-            net_count: 1,
-            nets: [halt; 4096],
+            nets: table(halt, 1),
             rom_bits: 0,
-            rom_count: 1,
-            rom: [0; 1024],
+            rom: table(0, 1),
             ram_bits: 0,
-            ram_count: 1,
-            ram: [RamWord {
-                value: 0,
-                unknown: 0,
-            }; 256],
-            wires: [0; 35],
-            pilot_count: 1,
-            pilots: [0; 17],
+            ram: table(word, 1),
+            wires: table(0, 17),
+            pilots: table(0, 2),
             flop_count: 1,
-            start_count: 1,
-            starts: [Tri::Zero; 32768],
+            starts: table(Tri::Zero, 1),
         };
         Design { tables }
     }
@@ -78,29 +76,26 @@ impl Design {
     pub fn nets(&self) -> &[Net]
         ensures { result.now ≡ (core self.now).nets }
     {
-        let n = self.tables.net_count;
-        &self.tables.nets[0..n]
+        self.tables.nets.as_slice()
     }
 
     pub fn rom(&self) -> &[u16]
         ensures { result.now ≡ (core self.now).rom }
     {
-        let n = self.tables.rom_count;
-        &self.tables.rom[0..n]
+        self.tables.rom.as_slice()
     }
 
     pub fn ram(&self) -> &[RamWord]
         ensures { result.now ≡ (core self.now).ram }
     {
-        let n = self.tables.ram_count;
-        &self.tables.ram[0..n]
+        self.tables.ram.as_slice()
     }
 
     pub fn rom_address(&self) -> &[u16]
         ensures { result.now ≡ (core self.now).rom_address }
     {
         let rom = self.tables.rom_bits;
-        &self.tables.wires[0..rom]
+        &self.tables.wires.as_slice()[..rom]
     }
 
     pub fn ram_address(&self) -> &[u16]
@@ -108,47 +103,45 @@ impl Design {
     {
         let rom = self.tables.rom_bits;
         let ram = self.tables.ram_bits;
-        &self.tables.wires[rom..rom + ram]
+        &self.tables.wires.as_slice()[rom..rom + ram]
     }
 
     pub fn write_enable(&self) -> u16
         ensures { result ≡ (core self.now).write_enable }
     {
-        self.tables.wires[self.tables.rom_bits + self.tables.ram_bits]
+        self.tables.wires.as_slice()[self.tables.rom_bits + self.tables.ram_bits]
     }
 
     pub fn write_data(&self) -> &[u16]
         ensures { result.now ≡ (core self.now).write_data }
     {
         let first = self.tables.rom_bits + self.tables.ram_bits + 1;
-        &self.tables.wires[first..first + 16]
+        &self.tables.wires.as_slice()[first..first + 16]
     }
 
     pub fn mark(&self) -> u16
         ensures { result ≡ (core self.now).mark }
     {
-        self.tables.pilots[0]
+        self.tables.pilots.as_slice()[0]
     }
 
     pub fn pilots(&self) -> &[u16]
         ensures { result.now ≡ (core self.now).pilots }
     {
-        let n = self.tables.pilot_count;
-        &self.tables.pilots[1..n + 1]
+        &self.tables.pilots.as_slice()[1..]
     }
 
     // All starts, one after the other, each with a level for each flop.
     pub fn starts(&self) -> &[Tri]
         ensures { result.now ≡ (core self.now).starts }
     {
-        let tables = &self.tables;
-        &tables.starts[0..tables.start_count * tables.flop_count]
+        self.tables.starts.as_slice()
     }
 
     pub fn start_count(&self) -> usize
         ensures { result ≡ length (core self.now).starts / flops (core self.now) }
     {
-        self.tables.start_count
+        self.starts().len() / self.flop_count()
     }
 
     pub fn flop_count(&self) -> usize
@@ -161,6 +154,17 @@ impl Design {
     pub fn places(&self) -> usize
         ensures { result ≡ places (core self.now) }
     {
-        self.tables.net_count + 16 * self.tables.ram_count
+        self.nets().len() + 16 * self.ram().len()
+    }
+}
+
+// A table of this value, so many times.
+fn table<T: Copy, const N: usize>(value: T, count: usize) -> Table<T, N>
+    requires { count ≤ N }
+    ensures { items result ≡ replicate count value }
+{
+    Table {
+        values: [value; N],
+        count,
     }
 }

@@ -1,3 +1,4 @@
+pub mod Asked
 pub mod Charging
 mod EdgeLemmas
 pub mod Keying

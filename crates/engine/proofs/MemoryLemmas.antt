@@ -1,12 +1,13 @@
 -- Lemmas on what the memories answer. Assumes nothing.
-use Rattle.std.proofs.Common.{◌≡◌, ℕ, suc, ◌+◌, ◌-◌, ◌*◌, ◌/◌, ◌%◌, ◌^◌, ◌<◌, ◌≤◌, true, false, cond, eqb, ◌≢◌, List, [], ◌∷◌, ◌++◌, map, length, get_or, take, drop, set, sym, refl, ap, ◌∙◌, subst, pow-suc, arith, length-append, get_or-set_other, pow_mono}
+use Rattle.std.proofs.Common.{◌≡◌, ℕ, suc, ◌+◌, ◌-◌, ◌*◌, ◌/◌, ◌^◌, ◌<◌, ◌≤◌, true, false, cond, ◌≢◌, List, [], ◌∷◌, ◌++◌, map, length, get_or, take, drop, set, sym, refl, ap, ◌∙◌, subst, pow-suc, add-one, arith, length-append, get_or-set_other, pow_mono}
 use lib.ListN.{length-map}
+use Rattle.std.proofs.Math.Nat.{div-div-eq-div-mul}
 use Rattle.std.proofs.lemmas.List.{length-take-le, get_or-take, get_or-map, get_or_read, take_all, take-append-le, at_drop_more, at_drop_all}
 use Rattle.std.specs.List.{range_with_len}
 use Rattle.std.proofs.lemmas.List.FromFn.{fill_by_all}
 use Rattle.std.proofs.lemmas.List.Edits.{fill_by_more}
-use Rattle.levels.specs.Kinds.{Kind, choice}
-use Rattle.model.specs.Core.{Core, places, sound}
+use Rattle.levels.specs.Kinds.{Kind, choice, bit_at}
+use Rattle.model.specs.Core.{Core, sound}
 use Rattle.model.specs.Cycle.{at, paired, picked, cell_of_two, written}
 use Rattle.model.proofs.Sound.{sound_parts}
 
@@ -96,25 +97,28 @@ left_all {V} k wires leaves i width now v e r was =
 
 -- ---- a sound core's memories
 
-pub rom_fits : (d : Core) → sound d ≡ true → length d.rom ≤ 1024
-rom_fits d e = let p = sound_parts d e in let h = pow_mono p.rom_bits in omega (arith, p.rom_words)
-
 pub ram_fits : (d : Core) → sound d ≡ true → length d.ram ≤ 256
 ram_fits d e = let p = sound_parts d e in let h = pow_mono p.ram_bits in omega (arith, p.ram_words)
 
--- wires that name nets name places of a state
-pub wires_within : (d : Core) (wires address : List ℕ) (n : ℕ) → ((i : ℕ) → get_or wires i 0 < length d.nets) → address ≡ wires → n ≡ places d → (i : ℕ) → get_or address i 0 < n
-wires_within d wires address n h e m i =
+-- wires that name nets
+pub wire_named : (d : Core) (wires address : List ℕ) → ((i : ℕ) → get_or wires i 0 < length d.nets) → address ≡ wires → (i : ℕ) → get_or address i 0 < length d.nets
+wire_named d wires address h e i =
     let same = ap (λ (ws : List ℕ). get_or ws i 0) e in
     omega (arith, h i)
 
 -- ---- a word's write
 
-pub written_more : {V : Type 0} (k : Kind V) (wires : List V) (i word truth : ℕ) (on a d zero made : V) → i < length wires → a ≡ get_or wires i d → truth ≡ cond (eqb (word % 2) 1) 8 2 → zero ≡ k.of_bit false → made ≡ k.apply truth (on ∷ (a ∷ (zero ∷ (zero ∷ [])))) → written k made (drop (i + 1) wires) (word / 2) ≡ written k on (drop i wires) word
+half_more : (word i : ℕ) → (word / 2 ^ i) / 2 ≡ word / 2 ^ (i + 1)
+half_more word i =
+    div-div-eq-div-mul word (2 ^ i) 2 ∙ ap (λ (n : ℕ). word / n) (sym (ap (λ (n : ℕ). 2 ^ n) (add-one i) ∙ pow-suc 2 i))
+
+-- one address bit on, which is bit i of the word's number
+pub written_more : {V : Type 0} (k : Kind V) (wires : List V) (i word truth : ℕ) (on a d zero made : V) → i < length wires → a ≡ get_or wires i d → truth ≡ cond (bit_at word i) 8 2 → zero ≡ k.of_bit false → made ≡ k.apply truth (on ∷ (a ∷ (zero ∷ (zero ∷ [])))) → written k made (drop (i + 1) wires) (word / 2 ^ (i + 1)) ≡ written k on (drop i wires) (word / 2 ^ i)
 written_more {V} k wires i word truth on a d zero made h e t z m =
-    let now : made ≡ cell_of_two k (cond (eqb (word % 2) 1) 8 2) on (get_or wires i d) = cc (e, t, z, m) in
-    let step : written k on (drop i wires) word ≡ written k (cell_of_two k (cond (eqb (word % 2) 1) 8 2) on (get_or wires i d)) (drop (i + 1) wires) (word / 2) = at_drop_more (λ (ws : List V). written k on ws word) wires i d h in
-    ap (λ (v : V). written k v (drop (i + 1) wires) (word / 2)) now ∙ sym step
+    let now : made ≡ cell_of_two k (cond (bit_at word i) 8 2) on (get_or wires i d) = cc (e, t, z, m) in
+    let step : written k on (drop i wires) (word / 2 ^ i) ≡ written k (cell_of_two k (cond (bit_at word i) 8 2) on (get_or wires i d)) (drop (i + 1) wires) ((word / 2 ^ i) / 2) = at_drop_more (λ (ws : List V). written k on ws (word / 2 ^ i)) wires i d h in
+    ap (λ (v : V). written k v (drop (i + 1) wires) (word / 2 ^ (i + 1))) now
+    ∙ ap (written k (cell_of_two k (cond (bit_at word i) 8 2) on (get_or wires i d)) (drop (i + 1) wires)) (sym (half_more word i)) ∙ sym step
 
 pub written_all : {V : Type 0} (k : Kind V) (wires : List V) (i word : ℕ) (on : V) → length wires ≤ i → written k on (drop i wires) word ≡ on
 written_all {V} k wires i word on h = at_drop_all (λ (ws : List V). written k on ws word) wires i h

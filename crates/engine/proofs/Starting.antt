@@ -1,10 +1,13 @@
 -- A start's levels, net by net and word by word. Assumes nothing.
-use Rattle.std.proofs.Common.{◌≡◌, ℕ, zero, suc, ◌+◌, ◌-◌, ◌*◌, ◌/◌, ◌%◌, ◌<◌, ◌≤◌, Bool, true, false, cond, ◌⊎◌, List, [], ◌∷◌, ◌++◌, map, length, get_or, take, set, sym, refl, ap, ◌∙◌, ⊎_elim, mul_comm, add-one, arith, below_more}
+use Rattle.std.proofs.Common.{◌≡◌, ℕ, Some, zero, suc, ◌+◌, ◌-◌, ◌*◌, ◌/◌, ◌%◌, ◌<◌, ◌≤◌, Bool, true, false, cond, ◌⊎◌, List, [], ◌∷◌, ◌++◌, map, length, get_or, take, set, sym, refl, ap, ◌∙◌, ap₂, ⊎_elim, mul_comm, add-one, arith, below_more}
 use Rattle.std.specs.List.{range_with_len}
 use Rattle.std.proofs.lemmas.Nat.{mul-le, mul-add-lt, div-add-mod'}
 use Rattle.std.proofs.lemmas.List.FromFn.{length-map-range_with_len, get_or-map-range_with_len}
-use Rattle.std.proofs.lemmas.List.{get_or-set_same, get_or-set_other, get_or_default, get_or_append_left, get_or-append_right, length-append, ext_get_or}
+use Rattle.std.proofs.lemmas.List.{length-take-le, get_or-take, get_or-set_same, get_or-set_other, get_or_default, get_or_append_left, get_or-append_right, length-append, ext_get_or}
 use Rattle.std.proofs.lemmas.Bool.{cases_lt, false≢true}
+use Rattle.bundle.specs.declared.refusal.Fault.TheVariants as fault
+use Rattle.bundle.specs.declared.refusal.Refusal.{Refusal}
+use Rattle.bundle.specs.Format.{ask}
 use Rattle.levels.specs.Kinds.{Kind}
 use Rattle.levels.specs.declared.Tri.{Tri}
 use Rattle.levels.specs.declared.Tri.TheVariants.{X}
@@ -110,15 +113,40 @@ flop_read d starts same p q t e h =
 abbrev pub RamBegun : {V : Type 0} → Kind V → Core → ℕ → List V → Type 0
 RamBegun k d q s = (p : ℕ) → p < q → at k s (length d.nets + p) ≡ ram_begun k d (get_or d.ram (p / 16) no_word) (p % 16)
 
-pub ram_begun_more : {V : Type 0} (k : Kind V) (d : Core) (q : ℕ) (s : List V) (v : V) (place : ℕ) → place ≡ length d.nets + q → place < length s
-    → (ram : List RamWord) → ram ≡ d.ram → (w : RamWord) → q / 16 < length ram → v ≡ ram_begun k d (get_or ram (q / 16) w) (q % 16)
-    → RamBegun k d q s → RamBegun k d (q + 1) (set s place v)
-ram_begun_more k d q s v place e within ram same w inside level below =
-    let word : get_or ram (q / 16) w ≡ get_or d.ram (q / 16) no_word =
-    get_or_default ram (q / 16) w no_word inside ∙ ap (λ (ws : List RamWord). get_or ws (q / 16) no_word) same in
-    below_more (λ (p : ℕ). at k (set s place v) (length d.nets + p) ≡ ram_begun k d (get_or d.ram (p / 16) no_word) (p % 16)) q
-    (λ p h. get_or-set_other s place (length d.nets + p) v k.blank (omega arith) ∙ below p h)
-    (ap (at k (set s place v)) (sym e) ∙ (get_or-set_same s place v k.blank within ∙ (level ∙ ap (λ (x : RamWord). ram_begun k d x (q % 16)) word)))
+-- what the bits of a word leave, written at its place in the state
+module _ {V : Type 0} (k : Kind V) (s levels post : List V) (first : ℕ) (inside : first ≤ length s) (long : length levels ≡ 16) where
+  pub below_word : (i : ℕ) → i < first → at k (take first s ++ (levels ++ post)) i ≡ at k s i
+  below_word i h =
+      get_or_append_left (take first s) (levels ++ post) k.blank i (omega (arith, length-take-le first s inside))
+      ∙ get_or-take first s i k.blank h
+
+  within_word : (b : ℕ) → b < 16 → at k (take first s ++ (levels ++ post)) (first + b) ≡ at k levels b
+  within_word b h =
+      let e : first + b - first ≡ b = omega arith in
+      get_or-append_right (take first s) (levels ++ post) first (first + b) k.blank (length-take-le first s inside) (omega arith)
+      ∙ (ap (at k (levels ++ post)) e ∙ get_or_append_left levels post k.blank b (omega arith))
+
+  pub ram_begun_word : (d : Core) (number : ℕ) → first ≡ length d.nets + 16 * number → (ram : List RamWord) → ram ≡ d.ram → (w : RamWord)
+      → number < length ram → ((bit : ℕ) → bit < 16 → at k levels bit ≡ ram_begun k d (get_or ram number w) bit)
+      → RamBegun k d (16 * number) s → RamBegun k d (16 * (number + 1)) (take first s ++ (levels ++ post))
+  ram_begun_word d number e ram same w h bits was p l =
+      let word : get_or ram number w ≡ get_or d.ram number no_word =
+      get_or_default ram number w no_word h ∙ ap (λ (ws : List RamWord). get_or ws number no_word) same in
+      ⊎_elim
+      (λ lower. below_word (length d.nets + p) (omega arith) ∙ was p lower)
+      (λ top. let here : length d.nets + p ≡ first + (p - 16 * number) = omega arith in
+      let n : number ≡ p / 16 = omega arith in
+      let r : p - 16 * number ≡ p % 16 = omega arith in
+      ap (at k (take first s ++ (levels ++ post))) here
+      ∙ (within_word (p - 16 * number) (omega arith) ∙ (bits (p - 16 * number) (omega arith)
+      ∙ ap₂ (λ (x : RamWord) (b : ℕ). ram_begun k d x b) (word ∙ ap (λ (m : ℕ). get_or d.ram m no_word) n) r)))
+      (cases_lt p (16 * number))
+
+-- ---- what a start is refused with
+
+pub start_refused : (b : Bool) (r : Refusal) → Some r ≡ ask b fault.NoStart → (b ≡ false) × (r ≡ record { fault = fault.NoStart; place = 0 })
+start_refused true r e = let z : ⊥ = cc in absurd z
+start_refused false r e = (refl, cc)
 
 -- ---- the whole state before the gates settle
 

@@ -3,10 +3,10 @@ ghost use Rattle.std.specs.Prelude.{◌≡◌, length, replicate};
 ghost use Rattle.design.specs.Views.{core};
 ghost use Rattle.engine.specs.Steps.{Cycles};
 
-use crate::edges::{LEAVES, blank_all, edge};
-use crate::energy::step_charge;
+use crate::edges::{LEAVES, blank_all};
 use crate::gates::settle_gates;
-use bundle::{Fault, Refusal};
+use crate::state::State;
+use bundle::{Fault, Refusal, ask};
 use design::Design;
 use levels::Level;
 
@@ -20,16 +20,12 @@ fn step<V: Level>(
     ensures { Cycles V.kind (core design.now) line.now scratch.old state.old state.new result }
 {
     let places = design.places();
-    if state.len() != places || scratch.len() < places + LEAVES {
-        return Err(Refusal {
-            fault: Fault::Memory,
-            place: 0,
-        });
-    }
+    let before = State::of(design, state)?;
+    ask(places + LEAVES <= scratch.len(), Fault::Memory)?;
     let (next, leaves) = scratch.split_at_mut(places);
-    edge(design, state, line, next, leaves)?;
+    before.edge(line, next, leaves);
     settle_gates(design, next);
-    let energy = step_charge(design, state, next);
+    let energy = before.step_charge(next);
     state.copy_from_slice(next);
     Ok(energy)
 }

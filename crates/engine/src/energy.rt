@@ -5,7 +5,8 @@ ghost use Rattle.model.specs.Energy.{change, charge as drawn};
 ghost use Rattle.design.specs.Views.{core};
 ghost use Rattle.engine.specs.Refusals.{wrong_memory};
 
-use bundle::{Fault, Refusal};
+use crate::state::State;
+use bundle::{Fault, Refusal, ask};
 use design::Design;
 use levels::Level;
 use model::Net;
@@ -20,18 +21,22 @@ fn net_charge<V: Level>(net: &Net, before: V, after: V) -> u32
     u32::from(net.idle) + rise.max(fall)
 }
 
-pub(crate) fn step_charge<V: Level>(design: &Design, before: &[V], after: &[V]) -> u32
-    requires before_len { length before.now ≡ places (core design.now) }
-    requires after_len { length after.now ≡ places (core design.now) }
-    ensures { result ≡ drawn V.kind (core design.now) before.now after.now }
-{
-    let enable = before[design.write_enable() as usize];
-    let write = u32::from(enable.allows(true)) * u32::from(design.write_energy());
-    let mut total = u32::from(design.rom_energy()) + u32::from(design.ram_energy()) + write;
-    for (i, net) in design.nets().iter().enumerate() {
-        total += net_charge(net, before[i], after[i]);
+impl<'a, V: Level> State<'a, V> {
+    // What the step to the state after costs.
+    pub(crate) fn step_charge(&self, after: &[V]) -> u32
+        requires { length after.now ≡ places (core self.now.design.now) }
+        ensures { result ≡ drawn V.kind (core self.now.design.now) self.now.levels.now after.now }
+    {
+        let design = self.design;
+        let enable = self.at(design.write_enable());
+        let write = u32::from(enable.allows(true)) * u32::from(design.write_energy());
+        // Why by index: tried as `zip(..).map(..).sum()`, of which neither the bound nor the value of the sum was proved.
+        let mut total = u32::from(design.rom_energy()) + u32::from(design.ram_energy()) + write;
+        for (i, net) in design.nets().iter().enumerate() {
+            total += net_charge(net, self.levels[i], after[i]);
+        }
+        total
     }
-    total
 }
 
 // What the step from one state to another costs, in femtojoules: the nets' changes, and the memories' energies.
@@ -43,11 +48,7 @@ pub fn charge<V: Level>(design: &Design, before: &[V], after: &[V]) -> Result<u3
         (λ e. ((length before.now ≡ places (core design.now)) → (length after.now ≡ places (core design.now)) → ⊥)
         × (e ≡ wrong_memory)) }
 {
-    if before.len() != design.places() || after.len() != design.places() {
-        return Err(Refusal {
-            fault: Fault::Memory,
-            place: 0,
-        });
-    }
-    Ok(step_charge(design, before, after))
+    let state = State::of(design, before)?;
+    ask(after.len() == before.len(), Fault::Memory)?;
+    Ok(state.step_charge(after))
 }

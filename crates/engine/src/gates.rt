@@ -5,7 +5,7 @@ ghost use Rattle.model.specs.Cycle.{pin, gate_output, settled};
 ghost use Rattle.design.specs.Views.{core};
 ghost use Rattle.engine.specs.Refusals.{wrong_memory};
 
-use bundle::{Fault, Refusal};
+use bundle::{Fault, Refusal, ask};
 use design::Design;
 use levels::Level;
 use model::{Driver, Gate};
@@ -38,6 +38,7 @@ pub(crate) fn settle_gates<V: Level>(design: &Design, state: &mut [V])
     requires { length state.old ≡ places (core design.now) }
     ensures { state.new ≡ settled V.kind (core design.now) state.old }
 {
+    // Why by index: a gate reads the whole state while its own net is written.
     for (i, net) in design.nets().iter().enumerate() {
         if let Driver::Gate(gate) = net.driver {
             state[i] = gate_level(state, &gate);
@@ -53,12 +54,7 @@ pub fn settle<V: Level>(design: &Design, state: &mut [V]) -> Result<(), Refusal>
         (λ e. (length state.old ≢ places (core design.now))
         × (e ≡ wrong_memory) × (state.new ≡ state.old)) }
 {
-    if state.len() != design.places() {
-        return Err(Refusal {
-            fault: Fault::Memory,
-            place: 0,
-        });
-    }
+    ask(state.len() == design.places(), Fault::Memory)?;
     settle_gates(design, state);
     Ok(())
 }

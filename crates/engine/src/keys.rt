@@ -5,7 +5,8 @@ ghost use Rattle.model.specs.Cycle.{key_of};
 ghost use Rattle.design.specs.Views.{core};
 ghost use Rattle.engine.specs.Refusals.{wrong_memory};
 
-use bundle::{Fault, Refusal};
+use crate::state::State;
+use bundle::Refusal;
 use design::Design;
 use levels::Level;
 
@@ -17,16 +18,16 @@ fn at_weight(bit: bool, i: usize) -> u16
     u16::from(bit) << i
 }
 
-fn pilots_key<V: Level>(design: &Design, state: &[V]) -> u16
-    requires { length state.now ≡ places (core design.now) }
-    ensures { result ≡ key_of V.kind (core design.now) state.now }
-{
-    let mut key = 0;
-    for (i, pilot) in design.pilots().iter().enumerate() {
-        let level = state[*pilot as usize];
-        key += at_weight(level.allows(true), i);
+impl<'a, V: Level> State<'a, V> {
+    fn key(&self) -> u16
+        ensures { result ≡ key_of V.kind (core self.now.design.now) self.now.levels.now }
+    {
+        let mut key = 0;
+        for (i, pilot) in self.design.pilots().iter().enumerate() {
+            key += at_weight(self.at(*pilot).allows(true), i);
+        }
+        key
     }
-    key
 }
 
 // Bit i of the key says whether pilot i allows 1.
@@ -36,11 +37,5 @@ pub fn key<V: Level>(design: &Design, state: &[V]) -> Result<u16, Refusal>
         × (bits ≡ key_of V.kind (core design.now) state.now))
         (λ e. (length state.now ≢ places (core design.now)) × (e ≡ wrong_memory)) }
 {
-    if state.len() != design.places() {
-        return Err(Refusal {
-            fault: Fault::Memory,
-            place: 0,
-        });
-    }
-    Ok(pilots_key(design, state))
+    Ok(State::of(design, state)?.key())
 }

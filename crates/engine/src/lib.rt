@@ -8,6 +8,7 @@ mod gates;
 mod keys;
 mod memory;
 mod starts;
+mod state;
 
 pub use cycles::cycle;
 pub use edges::edge;

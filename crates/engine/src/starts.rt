@@ -7,7 +7,8 @@ ghost use Rattle.design.specs.Views.{core};
 ghost use Rattle.engine.specs.Refusals.{start_count, start_refusal};
 
 use crate::gates::settle_gates;
-use bundle::{Fault, Refusal};
+use crate::memory::{bit_of, ram_place};
+use bundle::{Fault, Refusal, ask};
 use design::Design;
 use levels::{Level, Tri};
 use model::{Driver, RamWord};
@@ -23,22 +24,15 @@ fn flop_level<V: Level>(level: Tri) -> V
     }
 }
 
-fn word_bit(word: u16, bit: usize) -> bool
-    requires { bit < 16 }
-    ensures { result ≡ bit_at word bit }
-{
-    (word >> bit) & 1 == 1
-}
-
 // A bit of a RAM word as the tag wakes, blank where the word does not know it.
 fn ram_level<V: Level>(word: &RamWord, bit: usize) -> V
     requires { bit < 16 }
     ensures { (d : Core) → result ≡ ram_begun V.kind d word.now bit }
 {
-    if word_bit(word.unknown, bit) {
+    if bit_of(word.unknown, bit) {
         V::blank()
     } else {
-        V::of_bit(word_bit(word.value, bit))
+        V::of_bit(bit_of(word.value, bit))
     }
 }
 
@@ -50,6 +44,7 @@ fn start_nets<V: Level>(design: &Design, number: usize, state: &mut [V])
         → at V.kind state.new i ≡ begun V.kind (core design.now) number i (driver_at (core design.now) i) }
 {
     let starts = design.starts();
+    // Why by index: an iterator over the levels answers an `Option`, and its `None` would be a branch that never runs.
     let mut flop = number * design.flop_count();
     for (i, net) in design.nets().iter().enumerate() {
         state[i] = match net.driver {
@@ -64,6 +59,16 @@ fn start_nets<V: Level>(design: &Design, number: usize, state: &mut [V])
     }
 }
 
+// The bits of a RAM word as the tag wakes.
+fn start_word<V: Level>(word: &RamWord, levels: &mut [V])
+    requires { length levels.old ≡ 16 }
+    ensures { (d : Core) (bit : ℕ) → bit < 16 → at V.kind levels.new bit ≡ ram_begun V.kind d word.now bit }
+{
+    for (bit, level) in levels.iter_mut().enumerate() {
+        *level = ram_level(word, bit);
+    }
+}
+
 // The RAM's bits as the tag wakes, behind the nets.
 fn start_ram<V: Level>(design: &Design, state: &mut [V])
     requires { length state.old ≡ places (core design.now) }
@@ -72,10 +77,9 @@ fn start_ram<V: Level>(design: &Design, state: &mut [V])
         → at V.kind state.new (length (core design.now).nets + q)
         ≡ ram_begun V.kind (core design.now) (slice_index_or (core design.now).ram (q / 16) no_word) (q % 16) }
 {
-    let first = design.nets().len();
-    let ram = design.ram();
-    for q in 0..16 * ram.len() {
-        state[first + q] = ram_level(&ram[q / 16], q % 16);
+    for (number, word) in design.ram().iter().enumerate() {
+        let first = ram_place(design, number, 0);
+        start_word(word, &mut state[first..first + 16]);
     }
 }
 
@@ -89,18 +93,8 @@ pub fn start<V: Level>(design: &Design, number: usize, state: &mut [V]) -> Resul
         × (e ≡ start_refusal (core design.now) state.old)
         × (state.new ≡ state.old)) }
 {
-    if state.len() != design.places() {
-        return Err(Refusal {
-            fault: Fault::Memory,
-            place: 0,
-        });
-    }
-    if number >= design.start_count() {
-        return Err(Refusal {
-            fault: Fault::NoStart,
-            place: 0,
-        });
-    }
+    ask(state.len() == design.places(), Fault::Memory)?;
+    ask(number < design.start_count(), Fault::NoStart)?;
     start_nets(design, number, state);
     start_ram(design, state);
     settle_gates(design, state);

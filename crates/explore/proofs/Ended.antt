@@ -13,7 +13,8 @@ use Rattle.explore.specs.declared.exploration.Exploration.{Exploration}
 use Rattle.explore.specs.Memory.{Memory, memory_of, view, fits}
 use Rattle.explore.specs.Calls.{Keeps, Takes, Walks, walk_refusal, cleared, unknown}
 use Rattle.explore.specs.Moves.{Holds}
-use Rattle.explore.proofs.Fits.{Fitting, fitting}
+use Rattle.explore.specs.Fitting.{Fitting}
+use Rattle.explore.proofs.Fits.{fitting}
 
 pub walk_fits : (d : Core) (m : Memory) → walk_refusal d m ≡ None → Fitting d m
 walk_fits d m none = fitting d m (whole_answered (fits d m) fault.Memory _ none).0

@@ -4,13 +4,7 @@ use Rattle.std.proofs.lemmas.Bool.{and_parts, eqb-true}
 use Rattle.model.specs.Core.{Core, places}
 use Rattle.explore.specs.declared.exploration.Exploration.{Exploration}
 use Rattle.explore.specs.Memory.{Memory, fits}
-
-pub record Fitting (d : Core) (m : Memory) : Type 0 where
-  pub places_fit : places d ≡ m.exploration.places
-  pub points_fit : length m.lent.points ≡ m.exploration.point_length
-  pub opened_fit : length m.lent.opened ≡ m.exploration.open_length
-  pub kept_fit : length m.lent.kept ≡ m.exploration.kept_length
-  pub scratch_fit : length m.lent.scratch ≡ m.exploration.scratch_length
+use Rattle.explore.specs.Fitting.{Fitting}
 
 pub fitting : (d : Core) (m : Memory) → fits d m ≡ true → Fitting d m
 fitting d m e =

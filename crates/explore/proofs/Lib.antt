@@ -1,5 +1,6 @@
 pub mod Answered
 pub mod Fits
+pub mod Slices
 pub mod Views
 pub mod Facts
 pub mod StartLemmas

@@ -16,7 +16,7 @@ use Rattle.record.specs.declared.point.Fate.TheVariants as fate
 use Rattle.record.specs.declared.point.Point.{Point}
 use Rattle.record.specs.Record.{started, start_count}
 use Rattle.explore.specs.declared.exploration.Exploration.{Exploration}
-use Rattle.explore.specs.Memory.{memory_of, view, fits, point_room, open_room, Adds}
+use Rattle.explore.specs.Memory.{memory_of, view, fits, point_room, open_room, Adds, HasRoom}
 use Rattle.explore.specs.Calls.{start_refusal}
 use Rattle.explore.specs.Parts.{open_points}
 use Rattle.explore.proofs.Fits.{fitting}
@@ -35,11 +35,8 @@ module _ (d : Core) (n : ℕ) (x : Exploration) (points : List Point) (opened ke
   pub record StartRoom : Type 0 where
     pub some_start : n < start_count d
     pub places_fit : places d ≡ x.places
-    pub few_points : x.point_count < 65535
-    pub point_inside : x.point_count < x.point_length
+    pub room : HasRoom 1 x
     pub point_lent : x.point_count < length points
-    pub few_open : x.open_count < 64
-    pub open_inside : (x.open_count + 1) * x.places ≤ x.open_length
     pub stretch_lent : x.open_count * x.places + x.places ≤ length opened
 
   pub start_room : start_refusal d n (memory_of x points opened kept scratch) ≡ None → StartRoom
@@ -58,11 +55,8 @@ module _ (d : Core) (n : ℕ) (x : Exploration) (points : List Point) (opened ke
       record {
         some_start = ltb-true n (start_count d) start.0;
         places_fit = fitted.places_fit;
-        few_points = omega arith;
-        point_inside = omega arith;
+        room = record { few_points = omega arith; points_inside = omega arith; few_open = omega (arith, open_more.0); open_inside = open_more.1 };
         point_lent = omega (arith, fitted.points_fit);
-        few_open = open_more.0;
-        open_inside = open_more.1;
         stretch_lent = omega (arith, open_more.1, times_more x.open_count x.places, fitted.opened_fit);
       }
 

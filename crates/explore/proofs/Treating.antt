@@ -1,9 +1,11 @@
 -- Looking up a key, and the treatments of a plan. Assumes nothing.
-use Rattle.std.proofs.Common.{◌≡◌, ℕ, suc, ◌+◌, ◌-◌, ◌*◌, ◌%◌, ◌<◌, ◌≤◌, Bool, true, false, cond, eqb, leb, List, [], ◌∷◌, ◌++◌, map, length, get_or, take, drop, set, Some, None, Ok, Err, Option, Result, sym, ap, ◌∙◌, subst, ap₂, ⊎_elim, arith, MatchResult}
-use Rattle.std.specs.List.{range_with_len}
+use Rattle.std.proofs.Common.{◌≡◌, ℕ, zero, suc, ◌+◌, ◌-◌, ◌*◌, ◌%◌, ◌<◌, ◌≤◌, Bool, true, false, cond, eqb, leb, List, [], ◌∷◌, ◌++◌, map, length, get_or, take, drop, set, Some, None, Ok, Err, Option, Result, sym, refl, ap, ◌∙◌, subst, ap₂, ⊎_elim, arith, MatchResult}
+use Rattle.std.specs.List.{range_with_len, position, position_from}
 use Rattle.std.proofs.lemmas.Nat.{mul-le}
-use Rattle.std.proofs.lemmas.List.FromFn.{length-map-range_with_len, get_or-map-range_with_len}
-use Rattle.std.proofs.lemmas.Bool.{cond-true, cond-false, eq-eqb, ne_eqb, leb-true, cases_Bool}
+use Rattle.std.proofs.lemmas.List.FromFn.{length-map-range_with_len, get_or-map-range_with_len, fill_by_all}
+use Rattle.std.proofs.lemmas.List.{length-take-le, get_or-take}
+use Rattle.std.proofs.lemmas.Iterator.Adapters.{position_from-zero}
+use Rattle.std.proofs.lemmas.Bool.{cond-true, cond-false, leb-true, cases_Bool}
 use Rattle.levels.specs.declared.Tri.{Tri}
 use Rattle.levels.specs.Tris.{tri_kind}
 use Rattle.bundle.specs.declared.refusal.Refusal.{Refusal}
@@ -13,32 +15,33 @@ use Rattle.model.proofs.Sound.{all_below_at}
 use Rattle.record.specs.Record.{Record, Entry, Meaning, halt, cut, walk, Treated, halts, passes_new, passes_known, keeps, cuts, merges, key_of_point, entry_at, entry_for, look_up, is_marked, covers_all, restored, no_entry as none}
 use Rattle.explore.specs.declared.exploration.Exploration.{Exploration}
 use Rattle.explore.specs.Memory.{stretch, no_entry}
-use Rattle.explore.proofs.Views.{times_more}
+use Rattle.explore.proofs.Views.{times_more, kept_at}
+use Rattle.explore.specs.Parts.{kept_entries}
+use Rattle.explore.specs.declared.exploration.Entry.{Entry as Kept}
 
 -- ---- looking up
 
--- what is looked at from entry i on
-abbrev pub looked_from : Core → ℕ → (ℕ → Entry Tri) → ℕ → ℕ → Option ℕ
-looked_from d key f n i = look_up tri_kind d key i (map f (range_with_len i (n - i)))
+-- a key is looked up by its place among the entries
+places_same : (d : Core) (key n : ℕ) (entries : List Kept) (kept : List Tri) (a m i : ℕ) →
+    position_from (λ (e : Kept). eqb e.key key) i (map (λ (k : ℕ). get_or entries k no_entry) (range_with_len a m))
+    ≡ look_up tri_kind d key i (map (kept_at n entries kept) (range_with_len a m))
+places_same d key n entries kept a zero i = refl
+places_same d key n entries kept a (suc m) i =
+    ap (cond (eqb (get_or entries a no_entry).key key) (Some i)) (places_same d key n entries kept (a + 1) m (i + 1))
 
-looked_step : (d : Core) (key : ℕ) (f : ℕ → Entry Tri) (n i : ℕ) → i < n
-    → looked_from d key f n i ≡ cond (eqb (f i).key key) (Some i) (looked_from d key f n (i + 1))
-looked_step d key f n i h =
-    let more : n - i ≡ suc (n - (i + 1)) = omega arith in
-    ap (λ (m : ℕ). look_up tri_kind d key i (map f (range_with_len i m))) more
+-- the first entries, one by one
+first_entries : (entries : List Kept) (count : ℕ) → count ≤ length entries
+    → take count entries ≡ map (λ (k : ℕ). get_or entries k no_entry) (range_with_len 0 count)
+first_entries entries count h =
+    fill_by_all (λ (k : ℕ). get_or entries k no_entry) (take count entries) count no_entry (length-take-le count entries h)
+    (λ i l. get_or-take count entries i no_entry l)
 
-pub looked_found : (d : Core) (key : ℕ) (f : ℕ → Entry Tri) (n i : ℕ) → i < n → (f i).key ≡ key → looked_from d key f n i ≡ Some i
-looked_found d key f n i h e = looked_step d key f n i h ∙ cond-true (eqb (f i).key key) (Some i) (looked_from d key f n (i + 1)) (eq-eqb (f i).key key e)
-
-pub looked_past : (d : Core) (key : ℕ) (f : ℕ → Entry Tri) (n i : ℕ) → i < n → ((f i).key ≡ key → ⊥)
-    → looked_from d key f n (i + 1) ≡ looked_from d key f n i
-looked_past d key f n i h e =
-    sym (looked_step d key f n i h ∙ cond-false (eqb (f i).key key) (Some i) (looked_from d key f n (i + 1)) (ne_eqb (f i).key key e))
-
-pub looked_none : (d : Core) (key : ℕ) (f : ℕ → Entry Tri) (n i : ℕ) → n ≤ i → looked_from d key f n i ≡ None
-looked_none d key f n i h =
-    let none : n - i ≡ 0 = omega arith in
-    ap (λ (m : ℕ). look_up tri_kind d key i (map f (range_with_len i m))) none
+pub looked_at : (d : Core) (key n : ℕ) (entries : List Kept) (kept : List Tri) (count : ℕ) → count ≤ length entries
+    → position (λ (e : Kept). eqb e.key key) (take count entries) ≡ look_up tri_kind d key 0 (kept_entries n entries kept count)
+looked_at d key n entries kept count h =
+    let test : Kept → Bool = λ (e : Kept). eqb e.key key in
+    position_from-zero test (take count entries)
+    ∙ (ap (position_from test 0) (first_entries entries count h) ∙ places_same d key n entries kept 0 count 0)
 
 -- an entry that is found is one of them
 found_below : (d : Core) (key j : ℕ) (es : List (Entry Tri)) (i : ℕ) → look_up tri_kind d key j es ≡ Some i → i < j + length es

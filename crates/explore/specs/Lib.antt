@@ -1,7 +1,9 @@
 pub mod Memory
+pub mod Fitting
 pub mod Parts
 pub mod Plans
 pub mod Steps
 pub mod Calls
 pub mod Moves
+pub mod Holding
 pub mod History

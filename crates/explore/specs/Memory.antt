@@ -1,5 +1,5 @@
 -- The lent memory of an exploration, and the record that it holds. Assumes nothing.
-use Rattle.std.specs.Prelude.{◌≡◌, ℕ, ◌+◌, ◌*◌, ◌/◌, min, Bool, ◌&&◌, List, map, reverse, length, take, drop, ◌==◌, slice_index, slice_index_or}
+use Rattle.std.specs.Prelude.{◌≡◌, ℕ, ◌+◌, ◌*◌, ◌/◌, ◌≤◌, min, Bool, ◌&&◌, List, map, reverse, length, take, drop, ◌==◌, slice_index, slice_index_or}
 use Rattle.std.specs.List.{range_with_len}
 use Rattle.levels.specs.declared.Tri.{Tri}
 use Rattle.model.specs.Core.{Core, places}
@@ -86,3 +86,10 @@ pub record Adds (n : ℕ) (before after : Exploration) : Type 0 where
   pub same_entries : after.entries ≡ before.entries
   pub more_points : after.point_count ≡ before.point_count + n
   pub more_open : after.open_count ≡ before.open_count + n
+
+-- room for so many points more, all of them open
+pub record HasRoom (count : ℕ) (x : Exploration) : Type 0 where
+  pub few_points : x.point_count + count ≤ 65535
+  pub points_inside : x.point_count + count ≤ x.point_length
+  pub few_open : x.open_count + count ≤ 64
+  pub open_inside : (x.open_count + count) * x.places ≤ x.open_length

@@ -13,6 +13,8 @@ pub struct Entry {
 // An exploration. The lent memory holds its points, the states of its open points and its kept states; here are the lengths that
 // it was made with, and what is in use. Open points are a stack: the highest number is last, and the state of the i-th stands
 // in the i-th stretch of the open states.
+// Why arrays: nothing is allocated, so numbers and entries stand in place, each with its count beside. A `Table` of each would keep two
+// of the facts below, few_open and few_entries; five others name a count all the same.
 #[derive(Clone, Copy)]
 pub struct Exploration {
     pub(crate) places: usize,

@@ -4,6 +4,7 @@ ghost use Rattle.std.specs.Result.{result_err};
 ghost use Rattle.bundle.specs.Format.{first_refusal};
 ghost use Rattle.design.specs.Views.{core};
 ghost use Rattle.explore.specs.Memory.{memory_of};
+ghost use Rattle.figures.specs.Rows.{SameRows};
 ghost use Rattle.explore.specs.Calls.{done_questions, Peaks, Windows, Figured};
 ghost use Rattle.explore.specs.History.{NoRunEscapesTheRecord};
 
@@ -11,6 +12,7 @@ use crate::answers::Figures;
 use crate::exploration::Exploration;
 use bundle::{Fault, Refusal, ask, ask_at};
 use design::Design;
+use figures::Rows;
 use levels::Tri;
 use record::Point;
 
@@ -20,14 +22,14 @@ impl Exploration {
         requires { self.now.point_count ≤ length points.now }
         ensures { result.now ≡ take self.now.point_count points.now }
     {
-        &points[0..self.point_count]
+        &points[..self.point_count]
     }
 
     // Is each row at least as long as the points in use, if the memory fits?
-    fn rows_fit(&self, fits: bool, row: &[u64], other: &[u64]) -> bool
-        ensures { result ≡ (fits && nat_le self.now.point_count (length row.now) && nat_le self.now.point_count (length other.now)) }
+    fn rows_fit(&self, fits: bool, rows: &Rows) -> bool
+        ensures { result ≡ (fits && nat_le self.now.point_count (length rows.now.row.now) && nat_le self.now.point_count (length rows.now.other.now)) }
     {
-        fits && self.point_count <= row.len() && self.point_count <= other.len()
+        fits && self.point_count <= rows.row.len() && self.point_count <= rows.other.len()
     }
 
     // Does the memory fit, was a start taken, and is no point open?
@@ -54,8 +56,7 @@ impl Exploration {
         scratch: &mut [Tri],
     ) -> Result<u32, Refusal>
         ensures { Peaks (core design.now)
-            (memory_of self.now points.now opened.now kept.now scratch.old)
-            (memory_of self.now points.now opened.now kept.now scratch.new) result }
+            (memory_of self.now points.now opened.now kept.now scratch.old) (memory_of self.now points.now opened.now kept.now scratch.new) result }
     {
         let fits = self.fits(design, points, opened, kept, scratch);
         scratch.fill(Tri::X);
@@ -74,24 +75,22 @@ impl Exploration {
         opened: &[Tri],
         kept: &[Tri],
         scratch: &mut [Tri],
-        row: &mut [u64],
-        other: &mut [u64],
+        rows: &mut Rows,
     ) -> Result<u64, Refusal>
-        ensures { Windows (core design.now) width
-            (memory_of self.now points.now opened.now kept.now scratch.old)
-            row.old other.old
-            (memory_of self.now points.now opened.now kept.now scratch.new)
-            row.new other.new result }
+        ensures windows { Windows (core design.now) width
+            (memory_of self.now points.now opened.now kept.now scratch.old) rows.old.row.now rows.old.other.now
+            (memory_of self.now points.now opened.now kept.now scratch.new) rows.new.row.now rows.new.other.now result }
+        ensures same_rows { SameRows rows.old rows.new }
     {
         let fits = self.fits(design, points, opened, kept, scratch);
-        let fits = self.rows_fit(fits, row, other);
+        let fits = self.rows_fit(fits, rows);
         scratch.fill(Tri::X);
         if let Err(refusal) = self.ask_done(fits) {
-            row.fill(0);
-            other.fill(0);
+            rows.row.fill(0);
+            rows.other.fill(0);
             return Err(refusal);
         }
-        figures::window(self.used(points), width, row, other)
+        figures::window(self.used(points), width, rows)
     }
 
     // The peak and the window of `width` together, refused as the window is.
@@ -110,18 +109,15 @@ impl Exploration {
         opened: &[Tri],
         kept: &[Tri],
         scratch: &mut [Tri],
-        row: &mut [u64],
-        other: &mut [u64],
+        rows: &mut Rows,
     ) -> Result<Figures, Refusal>
         ensures figured { Figured (core design.now) width
-            (memory_of self.now points.now opened.now kept.now scratch.old)
-            row.old other.old
-            (memory_of self.now points.now opened.now kept.now scratch.new)
-            row.new other.new result }
-        ensures no_run_escapes { NoRunEscapesTheRecord (core design.now)
-            (memory_of self.now points.now opened.now kept.now scratch.old) }
+            (memory_of self.now points.now opened.now kept.now scratch.old) rows.old.row.now rows.old.other.now
+            (memory_of self.now points.now opened.now kept.now scratch.new) rows.new.row.now rows.new.other.now result }
+        ensures no_run_escapes { NoRunEscapesTheRecord (core design.now) (memory_of self.now points.now opened.now kept.now scratch.old) }
+        ensures same_rows { SameRows rows.old rows.new }
     {
-        let window = self.window(design, width, points, opened, kept, scratch, row, other)?;
+        let window = self.window(design, width, points, opened, kept, scratch, rows)?;
         Ok(Figures {
             peak: figures::peak(self.used(points)),
             window,

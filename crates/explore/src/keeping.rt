@@ -8,17 +8,6 @@ use crate::exploration::{Entry, Exploration};
 use crate::plan::Plan;
 use levels::Tri;
 
-// How many entries there are once the plan's is written.
-pub(crate) fn entries_after(plan: Plan, count: usize) -> usize
-    requires { count ≤ 256 }
-    ensures { result ≡ entries_after plan count }
-{
-    match plan {
-        Plan::Add => count + 1,
-        Plan::Halt | Plan::Cut { .. } | Plan::Pass | Plan::Replace { .. } => count,
-    }
-}
-
 // Writes a state into its stretch of the kept states.
 fn keep_state(place: usize, state: &[Tri], kept: &mut [Tri])
     requires { place * length state.now + length state.now ≤ length kept.old }

@@ -6,6 +6,7 @@ mod asking;
 mod ending;
 mod exploration;
 mod figuring;
+mod held;
 mod keeping;
 mod making;
 mod plan;

@@ -1,11 +1,12 @@
 // An exploration made over lent memory.
 ghost use Rattle.std.specs.Prelude.{◌≡◌, ◌+◌, ◌*◌, ◌<◌, ◌≤◌};
+ghost use Rattle.std.specs.Result.{result_err};
 ghost use Rattle.design.specs.Views.{core};
 ghost use Rattle.explore.specs.Memory.{lent_of};
-ghost use Rattle.explore.specs.Calls.{Makes, Empty, unknown};
+ghost use Rattle.explore.specs.Calls.{make_refusal, Makes, Empty, unknown};
 
 use crate::exploration::{Entry, Exploration};
-use bundle::{Fault, Refusal};
+use bundle::{Fault, Refusal, ask};
 use design::Design;
 use levels::Tri;
 use record::Point;
@@ -41,6 +42,26 @@ fn over(
     }
 }
 
+// Is there memory for a point, for an open state and a kept one, and scratch for two states and 1,024 more?
+fn ask_make(
+    design: &Design,
+    points: &[Point],
+    opened: &[Tri],
+    kept: &[Tri],
+    scratch: &[Tri],
+) -> Result<(), Refusal>
+    ensures { result_err result ≡ make_refusal (core design.now) (lent_of points.now opened.now kept.now scratch.now) }
+{
+    let places = design.places();
+    ask(
+        1 <= points.len()
+            && places <= opened.len()
+            && places <= kept.len()
+            && 2 * places + 1024 <= scratch.len(),
+        Fault::Memory,
+    )
+}
+
 impl Exploration {
     // An exploration not yet made: it has no room for a point, so every call but `make` is refused.
     pub fn new() -> Exploration
@@ -49,6 +70,9 @@ impl Exploration {
         over(1, 0, 0, 0, 1026)
     }
 
+    // Why apart: here and in the other calls, a slice is lent by `&` or `&mut` as the call reads or writes it; a struct of the four would
+    // hold all by `&mut`, and ask more of a caller.
+    //
     // Makes an exploration of the design over the lent memory. Refused if there is less than a point, a state's places open and
     // kept, or twice as many and 1,024 more of scratch; a refused making leaves the exploration as it was. The scratch is all X
     // in the end either way.
@@ -60,25 +84,14 @@ impl Exploration {
         kept: &[Tri],
         scratch: &mut [Tri],
     ) -> Result<(), Refusal>
-        ensures made { Makes (core design.now)
-            (lent_of points.now opened.now kept.now scratch.old)
-            self.old self.new result }
+        ensures made { Makes (core design.now) (lent_of points.now opened.now kept.now scratch.old) self.old self.new result }
         ensures cleared { scratch.new ≡ unknown scratch.old }
     {
+        let allowed = ask_make(design, points, opened, kept, scratch);
         scratch.fill(Tri::X);
-        let places = design.places();
-        if points.is_empty()
-            || opened.len() < places
-            || kept.len() < places
-            || scratch.len() < 2 * places + 1024
-        {
-            return Err(Refusal {
-                fault: Fault::Memory,
-                place: 0,
-            });
-        }
+        allowed?;
         *self = over(
-            places,
+            design.places(),
             points.len(),
             opened.len(),
             kept.len(),

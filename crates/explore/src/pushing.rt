@@ -1,92 +1,63 @@
 // The successors of a point, written behind the points and the open points in use.
-ghost use Rattle.std.specs.Prelude.{◌≡◌, ◌+◌, ◌*◌, ◌<◌, ◌≤◌, [], ◌∷◌, map, length, slice_index};
+ghost use Rattle.std.specs.Prelude.{◌≡◌, ◌+◌, ◌*◌, ◌<◌, ◌≤◌, [], ◌∷◌, map, slice_index};
 ghost use Rattle.levels.specs.Tris.{tri_kind};
-ghost use Rattle.model.specs.Core.{places};
-ghost use Rattle.model.specs.Cycle.{edge};
-ghost use Rattle.record.specs.Record.{unknown_inputs, successor_keys, successor_point, after_key, waiting_from};
+ghost use Rattle.record.specs.Record.{successor_keys, successor_point, after_key, waiting_from};
 ghost use Rattle.design.specs.Views.{core};
-ghost use Rattle.explore.specs.Memory.{Adds};
+ghost use Rattle.explore.specs.Memory.{Adds, HasRoom};
 ghost use Rattle.explore.specs.Steps.{Pushed};
+ghost use Rattle.explore.specs.Holding.{SameHeld, Edged};
 
-use crate::exploration::Exploration;
-use design::Design;
-use levels::Tri;
+use crate::held::{Edge, Held};
 use record::{Fate, Origin, Point};
 use successors::successor;
 
-impl Exploration {
+impl Held<'_> {
     // Writes the successor of a choice as one more open point, which comes from point `from`.
-    fn push_successor(
-        &mut self,
-        design: &Design,
-        current: &[Tri],
-        next: &[Tri],
-        choice: u32,
-        from: u16,
-        points: &mut [Point],
-        opened: &mut [Tri],
-    )
-        requires places { self.old.places ≡ places (core design.now) }
-        requires current { length current.now ≡ places (core design.now) }
-        requires next { length next.now ≡ places (core design.now) }
-        requires edged { next.now ≡ edge tri_kind (core design.now) current.now (unknown_inputs tri_kind (core design.now)) }
-        requires among { choice < length (successor_keys tri_kind (core design.now) current.now) }
-        requires few_points { self.old.point_count < 65535 }
-        requires point_inside { self.old.point_count < self.old.point_length }
-        requires few_open { self.old.open_count < 64 }
-        requires open_inside { (self.old.open_count + 1) * self.old.places ≤ self.old.open_length }
-        requires points { length points.old ≡ self.old.point_length }
-        requires opened { length opened.old ≡ self.old.open_length }
-        ensures adds { Adds 1 self.old self.new }
-        ensures pushed { Pushed self.old.places points.old points.new opened.old opened.new
-            self.old.numbers self.new.numbers self.old.point_count self.old.open_count 1
-            (successor_point tri_kind (core design.now) from current.now (slice_index (successor_keys tri_kind (core design.now) current.now) choice) ∷ [])
-            (record { number = self.old.point_count; state = after_key tri_kind (core design.now) current.now (slice_index (successor_keys tri_kind (core design.now) current.now) choice) } ∷ []) }
+    fn push_successor(&mut self, edge: &Edge, choice: u32, from: u16)
+        requires edge { Edged (core self.old.design.now) edge.now }
+        requires among { choice < edge.now.count }
+        requires room { HasRoom 1 self.old.exploration.now }
+        ensures adds { Adds 1 self.old.exploration.now self.new.exploration.now }
+        ensures pushed { Pushed self.old.exploration.now.places self.old.points.now self.new.points.now self.old.opened.now self.new.opened.now
+            self.old.exploration.now.numbers self.new.exploration.now.numbers
+            self.old.exploration.now.point_count self.old.exploration.now.open_count 1
+            (successor_point tri_kind (core self.old.design.now) from edge.now.current.now (slice_index (successor_keys tri_kind (core self.old.design.now) edge.now.current.now) choice) ∷ [])
+            (record { number = self.old.exploration.now.point_count; state = after_key tri_kind (core self.old.design.now) edge.now.current.now (slice_index (successor_keys tri_kind (core self.old.design.now) edge.now.current.now) choice) } ∷ []) }
+        ensures kept { self.new.kept.now ≡ self.old.kept.now }
+        ensures same { SameHeld self.old self.new }
     {
-        let start = self.open_count * self.places;
-        let state = &mut opened[start..start + self.places];
-        let Ok((key, charge)) = successor(design, current, next, choice, state) else {
+        let design = self.design;
+        let places = self.exploration.places;
+        let start = self.exploration.open_count * places;
+        let state = &mut self.opened[start..start + places];
+        let Ok((key, charge)) = successor(design, edge.current, edge.next, choice, state) else {
             unreachable()
         };
-        points[self.point_count] = Point {
+        let point = self.exploration.point_count;
+        self.points[point] = Point {
             origin: Origin::From { point: from },
             key,
             charge,
             fate: Fate::Open,
         };
-        self.add_open();
+        self.exploration.add_open();
     }
 
     // Writes all successors of a state as open points.
-    pub(crate) fn push_successors(
-        &mut self,
-        design: &Design,
-        current: &[Tri],
-        next: &[Tri],
-        count: u32,
-        from: u16,
-        points: &mut [Point],
-        opened: &mut [Tri],
-    )
-        requires places { self.old.places ≡ places (core design.now) }
-        requires current { length current.now ≡ places (core design.now) }
-        requires next { length next.now ≡ places (core design.now) }
-        requires edged { next.now ≡ edge tri_kind (core design.now) current.now (unknown_inputs tri_kind (core design.now)) }
-        requires count { count ≡ length (successor_keys tri_kind (core design.now) current.now) }
-        requires few_points { self.old.point_count + count ≤ 65535 }
-        requires points_inside { self.old.point_count + count ≤ self.old.point_length }
-        requires few_open { self.old.open_count + count ≤ 64 }
-        requires open_inside { (self.old.open_count + count) * self.old.places ≤ self.old.open_length }
-        requires points { length points.old ≡ self.old.point_length }
-        requires opened { length opened.old ≡ self.old.open_length }
-        ensures adds { Adds count self.old self.new }
-        ensures pushed { Pushed self.old.places points.old points.new opened.old opened.new
-            self.old.numbers self.new.numbers self.old.point_count self.old.open_count count
-            (map (successor_point tri_kind (core design.now) from current.now) (successor_keys tri_kind (core design.now) current.now))
-            (waiting_from tri_kind (core design.now) self.old.point_count current.now) }
+    pub(crate) fn push_successors(&mut self, edge: &Edge, from: u16)
+        requires edge { Edged (core self.old.design.now) edge.now }
+        requires room { HasRoom edge.now.count self.old.exploration.now }
+        ensures adds { Adds edge.now.count self.old.exploration.now self.new.exploration.now }
+        ensures pushed { Pushed self.old.exploration.now.places self.old.points.now self.new.points.now self.old.opened.now self.new.opened.now
+            self.old.exploration.now.numbers self.new.exploration.now.numbers
+            self.old.exploration.now.point_count self.old.exploration.now.open_count edge.now.count
+            (map (successor_point tri_kind (core self.old.design.now) from edge.now.current.now) (successor_keys tri_kind (core self.old.design.now) edge.now.current.now))
+            (waiting_from tri_kind (core self.old.design.now) self.old.exploration.now.point_count edge.now.current.now) }
+        ensures kept { self.new.kept.now ≡ self.old.kept.now }
+        ensures same { SameHeld self.old self.new }
     {
-        for choice in 0..count {
-            self.push_successor(design, current, next, choice, from, points, opened);
+        for choice in 0..edge.count {
+            self.push_successor(edge, choice, from);
         }
     }
 }

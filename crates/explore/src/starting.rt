@@ -6,7 +6,7 @@ ghost use Rattle.model.specs.Core.{places};
 ghost use Rattle.model.specs.Cycle.{start_state, key_of};
 ghost use Rattle.design.specs.Views.{core};
 ghost use Rattle.record.specs.Record.{start_count};
-ghost use Rattle.explore.specs.Memory.{memory_of, Adds};
+ghost use Rattle.explore.specs.Memory.{memory_of, Adds, HasRoom};
 ghost use Rattle.explore.specs.Calls.{Starts, start_refusal};
 
 use crate::exploration::Exploration;
@@ -51,11 +51,9 @@ impl Exploration {
 
     // Counts one more point, which is open and has the next number.
     pub(crate) fn add_open(&mut self)
-        requires few_points { self.old.point_count < 65535 }
-        requires point_inside { self.old.point_count < self.old.point_length }
-        requires few_open { self.old.open_count < 64 }
-        requires open_inside { (self.old.open_count + 1) * self.old.places ≤ self.old.open_length }
+        requires { HasRoom 1 self.old }
         ensures adds { Adds 1 self.old self.new }
+        ensures slot { self.old.open_count < length self.old.numbers }
         ensures number { self.new.numbers ≡ slice_set self.old.numbers self.old.open_count self.old.point_count }
     {
         self.numbers[self.open_count] = self.point_count as u16;

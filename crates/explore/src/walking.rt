@@ -1,19 +1,45 @@
 // Open points taken one after the other, the highest number first.
 ghost use Rattle.std.specs.Prelude.{◌≡◌, [], length};
 ghost use Rattle.std.specs.Result.{result_err};
-ghost use Rattle.model.specs.Core.{places};
 ghost use Rattle.design.specs.Views.{core};
 ghost use Rattle.explore.specs.Memory.{memory_of, view};
+ghost use Rattle.explore.specs.Fitting.{Fitting};
+ghost use Rattle.explore.specs.Holding.{held_memory, SameHeld};
 ghost use Rattle.explore.specs.Calls.{Takes, Walks, walk_refusal};
 ghost use Rattle.explore.specs.Moves.{Holds};
 
 use crate::answers::Ending;
 use crate::exploration::Exploration;
+use crate::held::Held;
 use bundle::{Fault, Refusal, ask};
 use design::Design;
 use levels::Tri;
 use record::Point;
 use rules::Rule;
+
+impl Held<'_> {
+    // Takes open points until none is open, so many are taken, or one is refused.
+    fn take_all<R: Rule>(&mut self, rule: &R, budget: usize, scratch: &mut [Tri]) -> (usize, Ending)
+        requires { length scratch.old ≡ self.old.exploration.now.scratch_length }
+        ensures takes { Takes (core self.old.design.now) (R.Rule.meaning rule.now) self.old.exploration.now budget
+            (view (held_memory self.old)) result.0 result.1 (view (held_memory self.new)) }
+        ensures holds { Holds (held_memory self.old) (held_memory self.new) }
+        ensures same { SameHeld self.old self.new }
+    {
+        for taken in 0..budget {
+            if self.exploration.open_count == 0 {
+                return (taken, Ending::Done);
+            }
+            if let Err(refusal) = self.take(rule, scratch) {
+                return (taken, Ending::Refused(refusal));
+            }
+        }
+        if self.exploration.open_count == 0 {
+            return (budget, Ending::Done);
+        }
+        (budget, Ending::Spent)
+    }
+}
 
 impl Exploration {
     // Refusal 13 if the memory is not that of the making, or the design has another number of places; 18 if no start was taken.
@@ -36,7 +62,7 @@ impl Exploration {
     }
 
     // Takes open points until none is open, so many are taken, or one is refused.
-    fn take_all<R: Rule>(
+    fn take_held<R: Rule>(
         &mut self,
         design: &Design,
         rule: &R,
@@ -46,29 +72,21 @@ impl Exploration {
         kept: &mut [Tri],
         scratch: &mut [Tri],
     ) -> (usize, Ending)
-        requires places { self.old.places ≡ places (core design.now) }
-        requires points { length points.old ≡ self.old.point_length }
-        requires opened { length opened.old ≡ self.old.open_length }
-        requires kept { length kept.old ≡ self.old.kept_length }
-        requires scratch { length scratch.old ≡ self.old.scratch_length }
+        requires { Fitting (core design.now) (memory_of self.old points.old opened.old kept.old scratch.old) }
         ensures takes { Takes (core design.now) (R.Rule.meaning rule.now) self.old budget
             (view (memory_of self.old points.old opened.old kept.old [])) result.0 result.1
             (view (memory_of self.new points.new opened.new kept.new [])) }
         ensures holds { Holds (memory_of self.old points.old opened.old kept.old [])
             (memory_of self.new points.new opened.new kept.new []) }
     {
-        for taken in 0..budget {
-            if self.open_count == 0 {
-                return (taken, Ending::Done);
-            }
-            if let Err(refusal) = self.take(design, rule, points, opened, kept, scratch) {
-                return (taken, Ending::Refused(refusal));
-            }
-        }
-        if self.open_count == 0 {
-            return (budget, Ending::Done);
-        }
-        (budget, Ending::Spent)
+        let mut held = Held {
+            design,
+            exploration: self,
+            points,
+            opened,
+            kept,
+        };
+        held.take_all(rule, budget, scratch)
     }
 
     // Takes the open point with the highest number, as the rule says, up to `budget` times: how many were taken, and whether the
@@ -94,7 +112,7 @@ impl Exploration {
             scratch.fill(Tri::X);
             return (0, Ending::Refused(refusal));
         }
-        let answer = self.take_all(design, rule, budget as usize, points, opened, kept, scratch);
+        let answer = self.take_held(design, rule, budget as usize, points, opened, kept, scratch);
         scratch.fill(Tri::X);
         answer
     }

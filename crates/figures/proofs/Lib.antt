@@ -1,2 +1,3 @@
-pub mod Rows
+pub mod BestRows
 pub mod Questions
+pub mod Greatest

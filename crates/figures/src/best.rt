@@ -30,6 +30,7 @@ fn drawn(point: &Point, q: usize, best: &[u64]) -> u64
 }
 
 // The row for one step more: each point counts for the point that it comes from.
+// Why apart: that the points name only one another is asked of three functions; a struct for it would hold one slice and be made once.
 fn lengthen(points: &[Point], best: &[u64], longer: &mut [u64])
     requires named { AllNamed points.now }
     requires best { length best.now ≡ length points.now }
@@ -38,6 +39,7 @@ fn lengthen(points: &[Point], best: &[u64], longer: &mut [u64])
     ensures { (w : ℕ) → Best points.now w best.now → Best points.now (suc w) longer.new }
 {
     longer.fill(0);
+    // Why by index: each point writes the place of the point that it comes from.
     for (q, point) in points.iter().enumerate() {
         if let Origin::From { point: from } = point.origin {
             let from = from as usize;
@@ -48,6 +50,7 @@ fn lengthen(points: &[Point], best: &[u64], longer: &mut [u64])
 
 // The row for `width` steps, through a second row. Two steps a turn go from one row into the other and back, so that only the
 // last row of an odd width is copied.
+// Why apart: the rows are no `Rows` here, since one made of two stretches of another gets no generated proof.
 pub(crate) fn best_row(points: &[Point], width: u16, row: &mut [u64], other: &mut [u64])
     requires named { AllNamed points.now }
     requires row { length row.old ≡ length points.now }
@@ -71,9 +74,10 @@ pub(crate) fn most_drawn(points: &[Point], best: &[u64]) -> u64
     requires best { length best.now ≡ length points.now }
     ensures { (w : ℕ) → Best points.now w best.now → result ≡ window_of points.now w }
 {
-    let mut most: u64 = 0;
-    for (p, point) in points.iter().enumerate() {
-        most = most.max(onward(point.fate, p, best));
-    }
-    most
+    points
+        .iter()
+        .enumerate()
+        .map(|(p, point)| onward(point.fate, p, best))
+        .max()
+        .unwrap_or(0)
 }

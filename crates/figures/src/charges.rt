@@ -8,9 +8,5 @@ use record::Point;
 pub fn peak(points: &[Point]) -> u32
     ensures { result ≡ peak_of points.now }
 {
-    let mut largest: u32 = 0;
-    for point in points {
-        largest = largest.max(point.charge);
-    }
-    largest
+    points.iter().map(|point| point.charge).max().unwrap_or(0)
 }

@@ -5,6 +5,8 @@ mod best;
 mod charges;
 mod naming;
 mod paths;
+mod rows;
 
 pub use charges::peak;
 pub use paths::window;
+pub use rows::Rows;

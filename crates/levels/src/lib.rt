@@ -13,6 +13,7 @@ pub trait Level: Copy {
     // the meaning: which bits a level allows, the level of a bit, that of a place never written, what a cell makes of its pins
     ghost kind: { Kind Self };
 
+    // Why not From: the contract names the meaning of this very kind, which generic code needs.
     fn of_bit(bit: bool) -> Self
         ensures { result ≡ kind.of_bit bit };
 

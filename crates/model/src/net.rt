@@ -1,5 +1,6 @@
 // A gate. Of its four pins the first `used` are wired to nets; the others read constant 0.
 // Bit i of the truth word is the output for i = pin 0 + 2 * pin 1 + 4 * pin 2 + 8 * pin 3.
+// Why an array: nothing is allocated, so the four pins stand in place, as a bundle has them, with the count of those that are wired.
 #[derive(Clone, Copy)]
 pub struct Gate {
     pub truth: u16,
@@ -17,6 +18,25 @@ pub enum Driver {
     RomBit { bit: u8 },
     RamBit { bit: u8 },
     Constant { bit: bool },
+}
+
+impl Driver {
+    ghost use Rattle.std.specs.Prelude.{◌≡◌};
+    ghost use Rattle.model.specs.Core.{is_flop, is_input};
+
+    // Whether it is a flop, with an enable or without.
+    pub fn is_flop(self) -> bool
+        ensures { result ≡ is_flop self }
+    {
+        matches!(self, Driver::Flop { .. } | Driver::EnabledFlop { .. })
+    }
+
+    // Whether it is an input.
+    pub fn is_input(self) -> bool
+        ensures { result ≡ is_input self }
+    {
+        matches!(self, Driver::Input)
+    }
 }
 
 // A net is the output of one cell. It costs `idle` in every cycle, and `rise` or `fall` as well when it changes, in femtojoules.

@@ -1,9 +1,10 @@
-use crate::parts::Parts;
 use bundle::{Fault, Refusal};
+use console::places_within;
 use decode::read_design;
 use design::Design;
 use levels::Bit;
-use player::{Cycle, places_to_play, play};
+use player::{Buffers, Cycle, play};
+use random_tags::Parts;
 use std::alloc::Global;
 use std::process::Abort;
 use std::test::Fail;
@@ -44,13 +45,39 @@ fn run(
     let mut state = vec![in heap; Bit::Zero; design.places()]?;
     let mut scratch = vec![in heap; Bit::Zero; 4096]?;
     let mut cycles = vec![in heap; Cycle { key: 0, energy: 0 }; text.len()]?;
-    match play(&design, text, &mut state, &mut scratch, &mut cycles) {
+    let mut buffers = Buffers {
+        state: &mut state,
+        scratch: &mut scratch,
+        cycles: &mut cycles,
+    };
+    match play(&design, text, &mut buffers) {
         Ok(count) => {
             cycles.truncate(count);
             Ok(Ok(cycles))
         }
         Err(refusal) => Ok(Err(refusal)),
     }
+}
+
+// The cycles of a run that is not refused.
+fn played(rt: &impl Abort, parts: &Parts, text: &[u8], heap: Global) -> Result<Vec<Cycle>, Fail> {
+    run(rt, parts, text, heap)?.map_err(|_| Fail::new("refused"))
+}
+
+// The line of this number is refused.
+fn line_refused(
+    rt: &impl Abort,
+    parts: &Parts,
+    text: &[u8],
+    heap: Global,
+    place: usize,
+) -> Result<(), Fail> {
+    let refusal = Refusal {
+        fault: Fault::Lines,
+        place,
+    };
+    assert!(rt; run(rt, parts, text, heap)?.err() == Some(refusal));
+    Ok(())
 }
 
 // Each cycle draws 9 idle: 3 for each flop, 1 for the XOR, 2 for the RAM. The input rises for 2 and falls for 1, the flop
@@ -65,13 +92,10 @@ fn run(
 #[test]
 fn toggling_tag_plays(rt: HostRuntime) -> Result<(), Fail> {
     let parts = Parts::toggling(rt.alloc())?;
-    let played = run(&rt, &parts, b"1\n1\n0\n1\n0\n0\n1\n", rt.alloc())?;
+    let cycles = played(&rt, &parts, b"1\n1\n0\n1\n0\n0\n1\n", rt.alloc())?;
     let worked = [(0, 16), (2, 23), (0, 18), (0, 16), (2, 20), (2, 9), (2, 15)];
-    let Ok(cycles) = played else {
-        return Err(Fail::new("refused"));
-    };
     assert_eq!(rt; cycles.len(), worked.len());
-    for (cycle, (key, energy)) in cycles.iter().zip(worked.iter()) {
+    for (cycle, (key, energy)) in cycles.iter().zip(&worked) {
         assert_eq!(rt; cycle.key, *key);
         assert_eq!(rt; cycle.energy, *energy);
     }
@@ -85,17 +109,11 @@ fn halting_ends_the_run(rt: HostRuntime) -> Result<(), Fail> {
     let mut parts = Parts::toggling(rt.alloc())?;
     assert!(rt; parts.nets.len() == 50 && parts.starts.len() == 2);
     parts.nets[22] = 4;
-    let played = run(&rt, &parts, b"0\n1\n0\n0\n0\n", rt.alloc())?;
-    let Ok(cycles) = played else {
-        return Err(Fail::new("refused"));
-    };
+    let cycles = played(&rt, &parts, b"0\n1\n0\n0\n0\n", rt.alloc())?;
     assert_eq!(rt; cycles.len(), 3);
     assert_eq!(rt; cycles.last().copied(), Some(Cycle { key: 3, energy: 30 }));
     parts.starts[0] = 1;
-    let played = run(&rt, &parts, b"0\n", rt.alloc())?;
-    let Ok(cycles) = played else {
-        return Err(Fail::new("refused"));
-    };
+    let cycles = played(&rt, &parts, b"0\n", rt.alloc())?;
     assert_eq!(rt; cycles.len(), 0);
     Ok(())
 }
@@ -104,56 +122,23 @@ fn halting_ends_the_run(rt: HostRuntime) -> Result<(), Fail> {
 fn lines_have_to_be_whole(rt: HostRuntime) -> Result<(), Fail> {
     let parts = Parts::toggling(rt.alloc())?;
     let heap = rt.alloc();
-    let whole = run(&rt, &parts, b"", heap)?;
-    assert!(rt; whole.is_ok());
-    let cut = run(&rt, &parts, b"1\n0", heap)?;
-    assert!(rt;
-        cut.err()
-            == Some(Refusal {
-                fault: Fault::Lines,
-                place: 1,
-            })
-    );
-    let empty = run(&rt, &parts, b"\n", heap)?;
-    assert!(rt;
-        empty.err()
-            == Some(Refusal {
-                fault: Fault::Lines,
-                place: 0,
-            })
-    );
-    let long = run(&rt, &parts, b"1\n0\n00\n", heap)?;
-    assert!(rt;
-        long.err()
-            == Some(Refusal {
-                fault: Fault::Lines,
-                place: 2,
-            })
-    );
-    let other = run(&rt, &parts, b"1\n2\n", heap)?;
-    assert!(rt;
-        other.err()
-            == Some(Refusal {
-                fault: Fault::Lines,
-                place: 1,
-            })
-    );
-    Ok(())
+    assert!(rt; run(&rt, &parts, b"", heap)?.is_ok());
+    line_refused(&rt, &parts, b"1\n0", heap, 1)?;
+    line_refused(&rt, &parts, b"\n", heap, 0)?;
+    line_refused(&rt, &parts, b"1\n0\n00\n", heap, 2)?;
+    line_refused(&rt, &parts, b"1\n2\n", heap, 1)
 }
 
 #[test]
 fn cells_and_starts_at_their_limits(rt: HostRuntime) -> Result<(), Fail> {
     let heap = rt.alloc();
     let mut parts = Parts::toggling(heap)?;
+    let constant = [0, 5, 0, 0, 0, 0, 0, 0, 0, 0];
     for _ in 4..64 {
-        parts
-            .cells
-            .extend_from_slice(&[0, 5, 0, 0, 0, 0, 0, 0, 0, 0])?;
+        parts.cells.extend_from_slice(&constant)?;
     }
     taken(&rt, &parts, heap)?;
-    parts
-        .cells
-        .extend_from_slice(&[0, 5, 0, 0, 0, 0, 0, 0, 0, 0])?;
+    parts.cells.extend_from_slice(&constant)?;
     refused(&rt, &parts, heap, Fault::Cells, 0)?;
     let mut parts = Parts::toggling(heap)?;
     for _ in 1..8 {
@@ -166,15 +151,15 @@ fn cells_and_starts_at_their_limits(rt: HostRuntime) -> Result<(), Fail> {
 
 // Bytes of the toggling tag's bundle with other values, the first bad entry that they make, and where.
 #[derive(Clone, Copy)]
-struct Case {
-    changes: [(usize, u8); 2],
+struct Case<'a> {
+    changes: &'a [(usize, u8)],
     fault: Fault,
     place: usize,
 }
 
-const fn changed(at: usize, value: u8, fault: Fault, place: usize) -> Case {
+fn changed(changes: &[(usize, u8)], fault: Fault, place: usize) -> Case<'_> {
     Case {
-        changes: [(at, value), (at, value)],
+        changes,
         fault,
         place,
     }
@@ -185,25 +170,21 @@ const fn changed(at: usize, value: u8, fault: Fault, place: usize) -> Case {
 fn entries_are_checked(rt: HostRuntime) -> Result<(), Fail> {
     let parts = Parts::toggling(rt.alloc())?;
     let cases = [
-        changed(4, 201, Fault::Figures, 0),
-        changed(12, 0, Fault::Figures, 0),
-        changed(106, 0x16, Fault::Cells, 3), // a truth bit that two pins do not reach
-        changed(156, 4, Fault::Nets, 4), // a gate that names itself
-        changed(156, 5, Fault::Nets, 4), // no such net
-        Case {
-            changes: [(166, 4), (168, 4)],
-            fault: Fault::Words,
-            place: 0,
-        }, // a RAM bit that is 1 and unknown
-        changed(202, 5, Fault::Wires, 16),
-        changed(208, 2, Fault::Pilots, 2), // the second of two equal pilots
-        changed(208, 1, Fault::Pilots, 2), // no flop
-        changed(211, 2, Fault::Starts, 1), // a pilot that is not known
-        changed(211, 3, Fault::Starts, 1), // no level
+        changed(&[(4, 201)], Fault::Figures, 0),
+        changed(&[(12, 0)], Fault::Figures, 0),
+        changed(&[(106, 0x16)], Fault::Cells, 3), // a truth bit that two pins do not reach
+        changed(&[(156, 4)], Fault::Nets, 4), // a gate that names itself
+        changed(&[(156, 5)], Fault::Nets, 4), // no such net
+        changed(&[(166, 4), (168, 4)], Fault::Words, 0), // a RAM bit that is 1 and unknown
+        changed(&[(202, 5)], Fault::Wires, 16),
+        changed(&[(208, 2)], Fault::Pilots, 2), // the second of two equal pilots
+        changed(&[(208, 1)], Fault::Pilots, 2), // no flop
+        changed(&[(211, 2)], Fault::Starts, 1), // a pilot that is not known
+        changed(&[(211, 3)], Fault::Starts, 1), // no level
     ];
-    for case in cases.iter() {
+    for case in &cases {
         let mut bytes = parts.bundle(rt.alloc())?;
-        for (at, value) in case.changes.iter() {
+        for (at, value) in case.changes {
             if let Some(byte) = bytes.get_mut(*at) {
                 *byte = *value;
             }
@@ -227,16 +208,14 @@ fn large_cores_are_not_played(rt: HostRuntime) -> Result<(), Fail> {
     parts.wires = vec![in heap; 0; 2 * 22]?;
     let mut design = Design::new();
     assert!(rt; read_design(&mut design, &parts.bundle(heap)?).is_ok());
-    assert!(rt; places_to_play(&design) == Ok(517));
+    assert!(rt; places_within(&design) == Ok(517));
     parts.ram = vec![in heap; 0; 4 * 64]?;
     parts.wires = vec![in heap; 0; 2 * 23]?;
     assert!(rt; read_design(&mut design, &parts.bundle(heap)?).is_ok());
-    assert!(rt;
-        places_to_play(&design)
-            == Err(Refusal {
-                fault: Fault::Memory,
-                place: 0,
-            })
-    );
+    let refusal = Refusal {
+        fault: Fault::Memory,
+        place: 0,
+    };
+    assert!(rt; places_within(&design) == Err(refusal));
     Ok(())
 }

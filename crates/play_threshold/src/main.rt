@@ -1,4 +1,4 @@
-// Plays the tag in tag.bin over the lines of standard input.
+// Plays the tag in tag.bin over the lines of standard input: `play` once more, which the gate runs here on a second tag.
 #![tactic(auto)]
 
 use std::process::ExitCode;

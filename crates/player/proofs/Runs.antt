@@ -1,16 +1,16 @@
 -- A run, line by line. Assumes nothing.
-use Rattle.std.proofs.Common.{◌≡◌, ℕ, zero, suc, ◌+◌, ◌-◌, ◌*◌, ◌/◌, ◌%◌, ◌<◌, ◌≤◌, Bool, true, false, cond, eqb, List, [], ◌∷◌, ◌++◌, length, take, drop, set, sym, refl, ap, ◌∙◌, ap₂, ⊎_elim, mul-le-mul_right, div-add-mod', arith}
+use Rattle.std.proofs.Common.{◌≡◌, ℕ, zero, suc, ◌+◌, ◌-◌, ◌*◌, ◌/◌, ◌%◌, ◌<◌, ◌≤◌, Bool, true, false, cond, ◌&&◌, eqb, leb, List, [], ◌∷◌, ◌++◌, length, take, drop, set, sym, refl, ap, ◌∙◌, ap₂, ⊎_elim, mul-le-mul_right, div-add-mod', arith, leb-true}
 use native.Mathlib.Nat.{sub-zero}
-use Rattle.std.proofs.lemmas.Bool.{eq-eqb, ne_eqb, cases_eq}
+use Rattle.std.proofs.lemmas.Bool.{and_parts, eq-eqb, eqb-true, ne_eqb, cases_eq}
 use Rattle.std.proofs.lemmas.List.{append-nil, append_assoc, take-append-drop, length-take-le, take_more_set, drop-set-lt, drop-drop}
 use Rattle.levels.specs.declared.Bit.{Bit}
 use Rattle.levels.specs.Bits.{bit_kind}
-use Rattle.model.specs.Core.{Core, sound, is_input, inputs, flops}
+use Rattle.model.specs.Core.{Core, sound, places, is_input, inputs, flops}
 use Rattle.model.proofs.Sound.{sound_parts}
 use Rattle.model.specs.Cycle.{halted}
 use Rattle.player.specs.declared.run.Cycle.{Cycle}
 use Rattle.model.proofs.Tallies.{tally_few}
-use Rattle.player.specs.Run.{next_state, shown_cycle, cycles_from, state_from, Ran}
+use Rattle.player.specs.Run.{next_state, shown_cycle, cycles_from, state_from, room, Ran}
 
 module _ (d : Core) (text : List ℕ) where
   pub stops : (l n : ℕ) (s : List Bit) → halted bit_kind d s ≡ true → (cycles_from d text l n s ≡ []) × (state_from d text l n s ≡ s)
@@ -100,3 +100,11 @@ some_start d e =
     absurd (omega (arith, p.some_starts, p.whole_starts, div-add-mod' (length d.starts) (flops d), ap (λ (k : ℕ). k * flops d) z)))
     (λ (ne : length d.starts / flops d ≡ 0 → ⊥). omega arith)
     (cases_eq (length d.starts / flops d) 0)
+
+-- what memory that fits is
+pub room_parts : (d : Core) (lines state scratch cycles : ℕ) → room d lines state scratch cycles ≡ true →
+    (state ≡ places d) × (2 * places d + 1024 ≤ scratch) × (lines ≤ cycles)
+room_parts d lines state scratch cycles e =
+    let all = and_parts (eqb state (places d) && leb (2 * places d + 1024) scratch) (leb lines cycles) e in
+    let two = and_parts (eqb state (places d)) (leb (2 * places d + 1024) scratch) all.0 in
+    (eqb-true state (places d) two.0, leb-true (2 * places d + 1024) scratch two.1, leb-true lines cycles all.1)

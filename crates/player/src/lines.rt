@@ -1,9 +1,9 @@
 ghost use Rattle.std.specs.Prelude.{◌≡◌, ◌+◌, ◌*◌, ◌^◌, ◌<◌, ◌≤◌, true, ◌&&◌, map, length, take, drop};
 ghost use Rattle.std.specs.Result.{result_err};
 ghost use Rattle.bundle.specs.Format.{byte};
-ghost use Rattle.player.specs.Lines.{character, level_of, all_levels, is_newline, line_bytes, line_count, lines_refusal};
+ghost use Rattle.player.specs.Lines.{character, is_level, level_of, all_levels, is_newline, line_bytes, line_count, lines_refusal};
 
-use bundle::{Fault, Refusal};
+use bundle::{Fault, Refusal, ask_at};
 use levels::Bit;
 
 // A character of a line: the level of an input, or the line's end.
@@ -15,6 +15,20 @@ pub(crate) enum Character {
 }
 
 impl Character {
+    // Whether it is the level of an input.
+    fn is_level(self) -> bool
+        ensures { result ≡ is_level self }
+    {
+        matches!(self, Character::Level(_))
+    }
+
+    // Whether it is a line's end.
+    fn is_newline(self) -> bool
+        ensures { result ≡ is_newline self }
+    {
+        matches!(self, Character::Newline)
+    }
+
     // The level of an input; 0 for a character that is none.
     fn level(self) -> Bit
         ensures { result ≡ level_of self }
@@ -26,42 +40,30 @@ impl Character {
     }
 }
 
-pub(crate) fn read_character(byte: u8) -> Character
-    ensures { result ≡ character byte }
-{
-    match byte as char {
-        '0' => Character::Level(Bit::Zero),
-        '1' => Character::Level(Bit::One),
-        '\n' => Character::Newline,
-        _ => Character::Other,
+impl From<u8> for Character {
+    ghost from_gives = { λ byte x. x ≡ character byte };
+
+    fn from(byte: u8) -> Character {
+        match byte as char {
+            '0' => Character::Level(Bit::Zero),
+            '1' => Character::Level(Bit::One),
+            '\n' => Character::Newline,
+            _ => Character::Other,
+        }
     }
 }
 
 fn are_levels(part: &[u8]) -> bool
     ensures { result ≡ all_levels part.now }
 {
-    for byte in part {
-        match read_character(*byte) {
-            Character::Level(_) => {}
-            _ => return false,
-        }
-    }
-    true
+    part.iter().all(|byte| Character::from(*byte).is_level())
 }
 
-// Whether the line that begins at `start` has a character for each input, and then a newline.
-fn is_whole(text: &[u8], inputs: usize, start: usize) -> bool
-    requires { start ≤ length text.now }
-    ensures { result ≡ (all_levels (take inputs (drop start text.now)) && is_newline (character (byte text.now (start + inputs)))) }
+// Whether a line has a character for each input, and then a newline.
+fn is_whole(line: &[u8], inputs: usize) -> bool
+    ensures { result ≡ (all_levels (take inputs line.now) && is_newline (character (byte line.now inputs))) }
 {
-    let rest = &text[start..];
-    if rest.len() <= inputs {
-        return false;
-    }
-    match read_character(rest[inputs]) {
-        Character::Newline => are_levels(&rest[0..inputs]),
-        _ => false,
-    }
+    inputs < line.len() && are_levels(&line[..inputs]) && Character::from(line[inputs]).is_newline()
 }
 
 // How many lines there are, a last one cut short among them.
@@ -77,24 +79,20 @@ pub(crate) fn check_lines(text: &[u8], inputs: usize) -> Result<(), Refusal>
     requires { inputs ≤ 4096 }
     ensures { result_err result ≡ lines_refusal inputs text.now }
 {
-    for line in 0..count_lines(text, inputs) {
-        if !is_whole(text, inputs, line * (inputs + 1)) {
-            return Err(Refusal {
-                fault: Fault::Lines,
-                place: line,
-            });
-        }
+    for (number, line) in text.chunks(inputs + 1).enumerate() {
+        ask_at(is_whole(line, inputs), Fault::Lines, number)?;
     }
     Ok(())
 }
 
 // The levels that a line's characters stand for.
+// Why by index: tried as `levels.iter_mut().zip(line)`, of whose writes a proof knows nothing. It knows those of `iter_mut()` alone.
 pub(crate) fn read_levels(line: &[u8], levels: &mut [Bit])
     requires { length levels.old ≡ length line.now }
     ensures { levels.new ≡ map (λ b. level_of (character b)) line.now }
 {
-    for (i, byte) in line.iter().enumerate() {
-        levels[i] = read_character(*byte).level();
+    for (i, level) in levels.iter_mut().enumerate() {
+        *level = Character::from(line[i]).level();
     }
 }
 

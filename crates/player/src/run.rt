@@ -1,16 +1,17 @@
-ghost use Rattle.std.specs.Prelude.{◌≡◌, ℕ, ◌+◌, ◌*◌, ◌<◌, ◌≤◌, length, replicate, MatchResult};
+ghost use Rattle.std.specs.Prelude.{◌≡◌, ℕ, ◌+◌, ◌*◌, ◌<◌, ◌≤◌, true, length, replicate, MatchResult};
 ghost use Rattle.levels.specs.declared.Bit.TheVariants.{Zero};
 ghost use Rattle.model.specs.Core.{tally, is_input, places, inputs as input_count};
 ghost use Rattle.design.specs.Views.{core};
-ghost use Rattle.player.specs.Lines.{line_count, line_bytes};
-ghost use Rattle.player.specs.Run.{shown_cycle, cycle_of, room, Ran, Plays};
+ghost use Rattle.player.specs.Run.{shown_cycle, cycle_of, Ran, Plays};
+ghost use Rattle.player.specs.Buffers.{fits, SameBuffers};
 
+use crate::buffers::Buffers;
 use crate::lines::{check_lines, count_lines, line_of, read_levels};
-use bundle::{Fault, Refusal};
+use bundle::{Fault, Refusal, ask};
 use design::Design;
 use engine::{cycle, key, start};
 use levels::Bit;
-use model::{Driver, Net};
+use model::Net;
 
 // One cycle of a run: the key of the state that it comes to, and what it draws in femtojoules.
 #[derive(Clone, Copy, PartialEq, Eq, Debug)]
@@ -22,13 +23,7 @@ pub struct Cycle {
 fn count_inputs(nets: &[Net]) -> usize
     ensures { result ≡ tally is_input nets.now }
 {
-    let mut count = 0;
-    for net in nets {
-        if let Driver::Input = net.driver {
-            count += 1;
-        }
-    }
-    count
+    nets.iter().filter(|net| net.driver.is_input()).count()
 }
 
 // One cycle: the line's characters are the levels of the inputs.
@@ -52,82 +47,56 @@ fn step(
 }
 
 // The lines in turn, until they end or the tag halts: how many cycles were played.
+// Why by index: a proof knows nothing of writes through `zip(cycles.iter_mut())`, and the line at which the tag halts is the answer.
 fn run_lines(
     design: &Design,
     text: &[u8],
     lines: usize,
-    state: &mut [Bit],
-    scratch: &mut [Bit],
-    cycles: &mut [Cycle],
+    buffers: &mut Buffers,
 ) -> Result<usize, Refusal>
-    requires state { length state.old ≡ places (core design.now) }
-    requires scratch { 2 * places (core design.now) + 1024 ≤ length scratch.old }
+    requires fits { fits (core design.now) lines buffers.old ≡ true }
     requires text { lines * (input_count (core design.now) + 1) ≤ length text.now }
-    requires cycles { lines ≤ length cycles.old }
-    ensures { MatchResult result (λ n. Ran (core design.now) text.now lines state.old n state.new cycles.old cycles.new) (λ _. ⊥) }
+    ensures ran { MatchResult result (λ n. Ran (core design.now) text.now lines buffers.old.state.now n buffers.new.state.now buffers.old.cycles.now buffers.new.cycles.now) (λ _. ⊥) }
+    ensures same { SameBuffers buffers.old buffers.new }
 {
     let inputs = count_inputs(design.nets());
-    let mut shown = key(design, state)?;
+    let mut shown = buffers.key(design)?;
     for line in 0..lines {
         if shown % 2 == 1 {
             return Ok(line);
         }
-        let cycle = step(design, line_of(text, inputs, line), state, scratch)?;
+        let cycle = step(
+            design,
+            line_of(text, inputs, line),
+            buffers.state,
+            buffers.scratch,
+        )?;
         shown = cycle.key;
-        cycles[line] = cycle;
+        buffers.cycles[line] = cycle;
     }
     Ok(lines)
 }
 
-fn clear(places: &mut [Bit])
-    ensures { places.new ≡ replicate (length places.old) Zero }
-{
-    places.fill(Bit::Zero);
-}
-
-// Whether the lent memory fits: a whole state, scratch for two states and the leaves of a memory, a cycle for each line.
-fn is_room(design: &Design, lines: usize, state: usize, scratch: usize, cycles: usize) -> bool
-    ensures { result ≡ room (core design.now) lines state scratch cycles }
-{
-    let places = design.places();
-    state == places && 2 * places + 1024 <= scratch && lines <= cycles
-}
-
-fn play_lines(
-    design: &Design,
-    text: &[u8],
-    state: &mut [Bit],
-    scratch: &mut [Bit],
-    cycles: &mut [Cycle],
-) -> Result<usize, Refusal>
-    ensures { Plays (core design.now) text.now (length scratch.old) state.old state.new cycles.old cycles.new result }
+fn play_lines(design: &Design, text: &[u8], buffers: &mut Buffers) -> Result<usize, Refusal>
+    ensures run { Plays (core design.now) text.now (length buffers.old.scratch.now) buffers.old.state.now buffers.new.state.now buffers.old.cycles.now buffers.new.cycles.now result }
+    ensures same { SameBuffers buffers.old buffers.new }
 {
     let inputs = count_inputs(design.nets());
     let lines = count_lines(text, inputs);
-    if !is_room(design, lines, state.len(), scratch.len(), cycles.len()) {
-        return Err(Refusal {
-            fault: Fault::Memory,
-            place: 0,
-        });
-    }
+    ask(buffers.fits(design, lines), Fault::Memory)?;
     check_lines(text, inputs)?;
-    start(design, 0, state)?;
-    run_lines(design, text, lines, state, scratch, cycles)
+    start(design, 0, buffers.state)?;
+    run_lines(design, text, lines, buffers)
 }
 
 // Plays a run in bits from start 0, unknowns at 0, over the lines of `text`, one a cycle, until they end or the tag halts. The
 // cycles that were played stand in the first of `cycles`, and their number is answered.
-pub fn play(
-    design: &Design,
-    text: &[u8],
-    state: &mut [Bit],
-    scratch: &mut [Bit],
-    cycles: &mut [Cycle],
-) -> Result<usize, Refusal>
-    ensures run { Plays (core design.now) text.now (length scratch.old) state.old state.new cycles.old cycles.new result }
-    ensures scratch { scratch.new ≡ replicate (length scratch.old) Zero }
+pub fn play(design: &Design, text: &[u8], buffers: &mut Buffers) -> Result<usize, Refusal>
+    ensures run { Plays (core design.now) text.now (length buffers.old.scratch.now) buffers.old.state.now buffers.new.state.now buffers.old.cycles.now buffers.new.cycles.now result }
+    ensures scratch { buffers.new.scratch.now ≡ replicate (length buffers.old.scratch.now) Zero }
+    ensures same { SameBuffers buffers.old buffers.new }
 {
-    let played = play_lines(design, text, state, scratch, cycles);
-    clear(scratch);
+    let played = play_lines(design, text, buffers);
+    buffers.scratch.fill(Bit::Zero);
     played
 }

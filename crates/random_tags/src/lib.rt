@@ -4,7 +4,8 @@
 mod making;
 mod parts;
 mod random;
+mod toggling;
 
 pub use making::make_tag;
-pub use parts::{Parts, push_two};
+pub use parts::{Body, Parts, push_two};
 pub use random::Random;

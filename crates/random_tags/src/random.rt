@@ -26,7 +26,7 @@ impl Random {
         ensures { 0 < count → result < count }
     {
         let next = self.next() as usize;
-        if count == 0 { 0 } else { next % count }
+        next.checked_rem(count).unwrap_or(0)
     }
 
     // A number from `low` on, and up to `high`.
@@ -40,12 +40,9 @@ impl Random {
         self.below(count) == 0
     }
 
-    // One of the items, or 0.
-    pub fn pick(&mut self, items: &[usize]) -> usize {
+    // One of the items; the default, 0 for numbers, if there is none.
+    pub fn pick<T: Copy + Default>(&mut self, items: &[T]) -> T {
         let place = self.below(items.len());
-        match items.get(place) {
-            Some(item) => *item,
-            None => 0,
-        }
+        items.get(place).copied().unwrap_or_default()
     }
 }

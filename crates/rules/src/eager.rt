@@ -33,13 +33,10 @@ impl Rule for Eager {
 fn differs_from(kept: &[Tri], state: &[Tri], first: usize) -> bool
     ensures { result ≡ differ (drop first kept.now) (drop first state.now) }
 {
-    let places = kept.len().min(state.len());
-    for i in first..places {
-        if kept[i] != state[i] {
-            return true;
-        }
-    }
-    false
+    kept.iter()
+        .zip(state)
+        .skip(first)
+        .any(|(kept, new)| kept != new)
 }
 
 // The places from `first` on become X.

@@ -36,6 +36,7 @@ pub fn join(kept: &[Tri], state: &mut [Tri])
     ensures { state.new ≡ plain_merge kept.now state.old }
 {
     let places = kept.len().min(state.len());
+    // Why by index: after `state.iter_mut().zip(kept)` a proof knows how long the state is, and nothing of what was written.
     for i in 0..places {
         state[i] = joined(kept[i], state[i]);
     }

@@ -34,11 +34,10 @@ impl<R: Rule> Rule for WholeWords<R> {
 fn make_whole(state: &mut [Tri], nets: usize)
     ensures { state.new ≡ whole_words nets state.old }
 {
-    let mut first = nets;
-    while first < state.len() {
+    // Why by index: after `chunks_mut(WORD)` a proof knows how long the state is, and nothing of what was written.
+    for first in (nets..state.len()).step_by(WORD) {
         let end = first + WORD.min(state.len() - first);
         make_word_whole(&mut state[first..end]);
-        first = end;
     }
 }
 

@@ -1,46 +1,61 @@
 // The edge: flops, memory bits, inputs and RAM after it, from the state before it alone.
-use crate::level::{BOTH, Level, NONE, at};
-use crate::memory::{ram_after, ram_read, rom_read};
-use slow_tag::{Net, Stop, Tag, Use};
-use std::alloc::Global;
+use crate::level::{BOTH, Level};
+use crate::state::State;
+use slow_tag::{Net, Tag, Use, bit};
+use std::alloc::{AllocError, Global};
 
-// What an enabled flop takes: the data at enable 1, its old level at 0, whichever may be.
-fn enabled(enable: Level, data: Level, old: Level) -> Level {
-    let mut level = NONE;
-    if enable.allows(true) {
-        level = level.or(data);
-    }
-    if enable.allows(false) {
-        level = level.or(old);
-    }
-    level
+// What bit `place` of some word at an allowed address of the ROM allows.
+fn rom_read(tag: &Tag, state: &State, place: usize) -> Level {
+    state.over_choices(&tag.rom_address, tag.rom.len(), |address| {
+        let word = tag.rom.get(address).copied().unwrap_or(0);
+        Level::from(bit(word, place))
+    })
+}
+
+// What bit `place` of some word at an allowed address of the RAM allows, as it stands before the write.
+fn ram_read(tag: &Tag, state: &State, place: usize) -> Level {
+    state.over_choices(&tag.ram_address, tag.ram.len(), |address| {
+        state.at(tag.ram_place(address, place))
+    })
+}
+
+// Whether a RAM word is written, over every choice of address and enable: 1 where it is, 0 where it is left.
+fn written(tag: &Tag, state: &State, word: usize) -> Level {
+    let enable = state.at(tag.enable);
+    state.over_choices(&tag.ram_address, tag.ram.len(), |address| {
+        enable.choose(Level::from(address == word), Level::from(false))
+    })
+}
+
+// A bit of a RAM word after the edge.
+fn ram_after(tag: &Tag, state: &State, word: usize, place: usize) -> Level {
+    let offered = state.at(tag.written.get(place).copied().unwrap_or(0));
+    let held = state.at(tag.ram_place(word, place));
+    written(tag, state, word).choose(offered, held)
 }
 
 // A net after the edge; a gate is still as it was, and settles later.
-fn net_after(tag: &Tag, state: &[Level], number: usize, net: &Net) -> Level {
+fn net_after(tag: &Tag, state: &State, number: usize, net: &Net) -> Level {
     let [first, second, _, _] = net.pins;
     match net.cell.duty {
-        Use::Gate => at(state, number),
-        Use::Flop => at(state, first),
-        Use::EnabledFlop => enabled(at(state, second), at(state, first), at(state, number)),
+        Use::Gate => state.at(number),
+        Use::Flop => state.at(first),
+        Use::EnabledFlop => state.at(second).choose(state.at(first), state.at(number)),
         Use::Input => BOTH,
         Use::MemoryBit if first == 0 => rom_read(tag, state, second),
         Use::MemoryBit => ram_read(tag, state, second),
-        Use::Zero => Level::of_bit(false),
-        Use::One => Level::of_bit(true),
+        Use::Zero => Level::from(false),
+        Use::One => Level::from(true),
     }
 }
 
 // The state after the edge, gates not settled.
-pub(crate) fn edge(tag: &Tag, state: &[Level], heap: Global) -> Result<Vec<Level>, Stop> {
-    let mut next = Vec::new(heap);
-    for (number, net) in tag.nets.iter().enumerate() {
-        next.push(net_after(tag, state, number, net))?;
-    }
-    for word in 0..tag.ram.len() {
-        for place in 0..16 {
-            next.push(ram_after(tag, state, word, place))?;
-        }
-    }
-    Ok(next)
+pub(crate) fn edge(tag: &Tag, state: &State, heap: Global) -> Result<State, AllocError> {
+    let nets = tag.nets.iter().enumerate();
+    let words = 0..tag.ram.len();
+    let levels = nets
+        .map(|(number, net)| net_after(tag, state, number, net))
+        .chain(words.flat_map(|word| (0..16).map(move |place| ram_after(tag, state, word, place))))
+        .collect(heap)?;
+    Ok(State { levels })
 }

@@ -1,7 +1,7 @@
 // Peak and window of a record.
 use crate::record::{Fate, Point, Record};
-use slow_tag::{Stop, ask};
-use std::alloc::Global;
+use slow_tag::{Question, Refusal, Stop, ask};
+use std::alloc::{AllocError, Global};
 
 // A path that goes so far: the point at its end, and the sum of the charges of its steps.
 #[derive(Clone, Copy)]
@@ -26,74 +26,70 @@ fn is_step(points: &[Point], from: usize, to: &Point) -> bool {
 }
 
 // Every path that is one step longer than one of these.
-fn longer(points: &[Point], paths: &[Path], heap: Global) -> Result<Vec<Path>, Stop> {
+fn longer(points: &[Point], paths: &[Path], heap: Global) -> Result<Vec<Path>, AllocError> {
     let mut next = Vec::new(heap);
     for path in paths {
-        for (number, point) in points.iter().enumerate() {
-            if is_step(points, path.end, point) {
-                next.push(Path {
-                    end: number,
+        let steps = points.iter().enumerate();
+        next.extend(
+            steps
+                .filter(|(_, point)| is_step(points, path.end, point))
+                .map(|(end, point)| Path {
+                    end,
                     sum: path.sum.saturating_add(u64::from(point.charge)),
-                })?;
-            }
-        }
+                }),
+        )?;
     }
     Ok(next)
 }
 
-// For each point the most that a path of one more step from it draws, where `best` has the most for each point so far.
-fn better(points: &[Point], best: &[u64], heap: Global) -> Result<Vec<u64>, Stop> {
-    let mut next = Vec::new(heap);
-    for from in 0..points.len() {
-        let mut most = 0;
-        for (point, then) in points.iter().zip(best.iter()) {
-            if is_step(points, from, point) {
-                most = then.saturating_add(u64::from(point.charge)).max(most);
-            }
-        }
-        next.push(most)?;
-    }
-    Ok(next)
+// The most that a path of one more step from a point draws, where `best` has the most for each point so far.
+fn most_from(points: &[Point], best: &[u64], from: usize) -> u64 {
+    points
+        .iter()
+        .zip(best)
+        .filter(|(point, _)| is_step(points, from, point))
+        .map(|(point, then)| then.saturating_add(u64::from(point.charge)))
+        .max()
+        .unwrap_or(0)
 }
 
-// Does a record name only points below the count?
-fn names_used(point: &Point, count: usize) -> bool {
-    let from = match point.origin {
-        Some(number) => number < count,
-        None => true,
-    };
-    let to = match point.fate {
-        Fate::Cut(number) => number < count,
-        _ => true,
-    };
-    from && to
+impl Point {
+    // Does it name only points below the count?
+    fn names_below(&self, count: usize) -> bool {
+        let to = match self.fate {
+            Fate::Cut(number) => Some(number),
+            Fate::Open | Fate::Walked | Fate::Halted => None,
+        };
+        [self.origin, to]
+            .iter()
+            .flatten()
+            .all(|number| *number < count)
+    }
 }
 
 impl Record {
     // Was a start taken, and is no point open?
-    fn ask_done(&self) -> Result<(), Stop> {
-        ask(!self.points.is_empty(), 18, 0)?;
+    fn ask_done(&self) -> Result<(), Refusal> {
+        ask(!self.points.is_empty(), Question::Started, 0)?;
         for (number, point) in self.points.iter().enumerate() {
-            ask(point.fate != Fate::Open, 19, number)?;
+            ask(point.fate != Fate::Open, Question::NoneOpen, number)?;
         }
         Ok(())
     }
 
     // The largest charge.
-    pub fn peak(&self) -> Result<u32, Stop> {
+    pub fn peak(&self) -> Result<u32, Refusal> {
         self.ask_done()?;
-        let mut most = 0;
-        for point in self.points.iter() {
-            most = point.charge.max(most);
-        }
-        Ok(most)
+        let charges = self.points.iter().map(|point| point.charge);
+        Ok(charges.max().unwrap_or(0))
     }
 
-    fn ask_window(&self, width: usize) -> Result<(), Stop> {
+    fn ask_window(&self, width: usize) -> Result<(), Refusal> {
         self.ask_done()?;
-        ask(width != 0, 20, 0)?;
+        ask(width != 0, Question::Width, 0)?;
         for (number, point) in self.points.iter().enumerate() {
-            ask(names_used(point, self.points.len()), 21, number)?;
+            let named = point.names_below(self.points.len());
+            ask(named, Question::Names, number)?;
         }
         Ok(())
     }
@@ -103,7 +99,9 @@ impl Record {
         self.ask_window(width)?;
         let mut best = vec![in heap; 0; self.points.len()]?;
         for _ in 0..width {
-            best = better(&self.points, &best, heap)?;
+            best = (0..self.points.len())
+                .map(|from| most_from(&self.points, &best, from))
+                .collect(heap)?;
         }
         Ok(best.iter().copied().max().unwrap_or(0))
     }
@@ -116,19 +114,15 @@ impl Record {
         heap: Global,
     ) -> Result<Option<u64>, Stop> {
         self.ask_window(width)?;
-        let mut paths = Vec::new(heap);
-        for end in 0..self.points.len() {
-            paths.push(Path { end, sum: 0 })?;
-        }
+        let ends = 0..self.points.len();
+        let mut paths: Vec<Path> = ends.map(|end| Path { end, sum: 0 }).collect(heap)?;
         let mut sum = 0;
         for _ in 0..width {
             if most < paths.len() {
                 return Ok(None);
             }
             paths = longer(&self.points, &paths, heap)?;
-            for path in paths.iter() {
-                sum = path.sum.max(sum);
-            }
+            sum = paths.iter().fold(sum, |sum, path| path.sum.max(sum));
         }
         Ok(Some(sum))
     }

@@ -2,10 +2,10 @@
 ghost use Rattle.std.specs.Prelude.{◌≡◌, vec_len};
 
 use crate::level::Level;
-use crate::settle::keys;
-use crate::steps::{Successor, start_state};
-use slow_tag::{Stop, Tag, ask};
-use std::alloc::Global;
+use crate::state::State;
+use crate::steps::Successor;
+use slow_tag::{Question, Stop, Tag, ask};
+use std::alloc::{AllocError, Global};
 
 // What became of a point.
 #[derive(Clone, Copy, PartialEq, Eq, Debug)]
@@ -29,7 +29,7 @@ pub struct Point {
 #[derive(Drop)]
 pub(crate) struct OpenPoint {
     pub(crate) number: usize,
-    pub(crate) state: Vec<Level>,
+    pub(crate) state: State,
 }
 
 // An entry of the key table, with the state that is kept under its key.
@@ -38,11 +38,11 @@ pub(crate) struct Entry {
     pub(crate) key: usize,
     pub(crate) point: usize,
     pub(crate) count: usize,
-    pub(crate) state: Vec<Level>,
+    pub(crate) state: State,
 }
 
 // At most so many points, open points and entries.
-#[derive(Clone, Copy, Debug)]
+#[derive(Clone, Copy, PartialEq, Eq, Debug)]
 pub struct Limits {
     pub points: usize,
     pub open: usize,
@@ -51,7 +51,7 @@ pub struct Limits {
 
 // How often a point was walked from a merged state, to more than one successor, with an unknown write enable, and with an unknown
 // address.
-#[derive(Clone, Copy, Debug)]
+#[derive(Clone, Copy, PartialEq, Eq, Debug, Default)]
 pub struct Seen {
     pub merges: usize,
     pub splits: usize,
@@ -75,12 +75,7 @@ impl Record {
             open: Vec::new(heap),
             entries: Vec::new(heap),
             limits,
-            seen: Seen {
-                merges: 0,
-                splits: 0,
-                enables: 0,
-                addresses: 0,
-            },
+            seen: Seen::default(),
         }
     }
 
@@ -101,7 +96,7 @@ impl Record {
     // The state that an entry keeps.
     pub fn kept_state(&self, entry: usize) -> &[Level] {
         match self.entries.get(entry) {
-            Some(entry) => &entry.state,
+            Some(entry) => &entry.state.levels,
             None => &[],
         }
     }
@@ -109,13 +104,13 @@ impl Record {
     // The state of an open point, by its place among them.
     pub fn open_state(&self, slot: usize) -> &[Level] {
         match self.open.get(slot) {
-            Some(open) => &open.state,
+            Some(open) => &open.state.levels,
             None => &[],
         }
     }
 
     // Adds an open point with its state.
-    pub(crate) fn add(&mut self, origin: Option<usize>, step: Successor) -> Result<(), Stop> {
+    pub(crate) fn add(&mut self, origin: Option<usize>, step: Successor) -> Result<(), AllocError> {
         let Successor { key, charge, state } = step;
         let number = self.points.len();
         self.points.push(Point {
@@ -130,17 +125,14 @@ impl Record {
 
     // Takes a start: the number of the point that is added.
     pub fn start(&mut self, tag: &Tag, start: usize, heap: Global) -> Result<usize, Stop> {
-        ask(start < tag.start_count(), 14, 0)?;
-        ask(self.points.len() < self.limits.points, 16, 0)?;
-        ask(self.open.len() < self.limits.open, 17, 0)?;
-        let state = start_state(tag, start, heap)?;
-        let mut key = 0;
-        for allowed in keys(tag, &state, heap)?.iter() {
-            key = *allowed;
-        }
         let number = self.points.len();
+        ask(start < tag.start_count(), Question::StartNumber, 0)?;
+        ask(number < self.limits.points, Question::PointRoom, 0)?;
+        ask(self.open.len() < self.limits.open, Question::OpenRoom, 0)?;
+        let state = State::start(tag, start, heap)?;
+        let keys = state.keys(tag, heap)?;
         let step = Successor {
-            key,
+            key: keys.last().copied().unwrap_or(0),
             charge: 0,
             state,
         };

@@ -1,5 +1,6 @@
 // Merge rules.
-use crate::level::{BOTH, Level, at, put};
+use crate::level::BOTH;
+use crate::state::State;
 
 #[derive(Clone, Copy, PartialEq, Eq, Debug)]
 pub enum Base {
@@ -8,38 +9,41 @@ pub enum Base {
 }
 
 // A merge rule: plain or eager, with whole words so many times over it.
-#[derive(Clone, Copy, Debug)]
+#[derive(Clone, Copy, PartialEq, Eq, Debug)]
 pub struct Rule {
     pub base: Base,
     pub words: usize,
 }
 
-// Makes each place that differs allow both bits.
-fn merge_places(kept: &[Level], state: &mut [Level]) {
-    for place in 0..state.len() {
-        if at(kept, place) != at(state, place) {
-            put(state, place, BOTH);
+impl State {
+    // Does any place from `nets` on differ?
+    fn ram_differs(&self, kept: &State, nets: usize) -> bool {
+        (nets..self.levels.len()).any(|place| kept.at(place) != self.at(place))
+    }
+
+    // Makes each place that differs allow both bits.
+    fn merge_places(&mut self, kept: &State) {
+        for (place, level) in self.levels.iter_mut().enumerate() {
+            if kept.at(place) != *level {
+                *level = BOTH;
+            }
         }
     }
-}
 
-// Does any place from `nets` on differ?
-fn ram_differs(kept: &[Level], state: &[Level], nets: usize) -> bool {
-    for place in nets..state.len() {
-        if at(kept, place) != at(state, place) {
-            return true;
+    // Makes every place from `nets` on allow both bits.
+    fn forget_ram(&mut self, nets: usize) {
+        if let Some(ram) = self.levels.as_mut_slice().get_mut(nets..) {
+            ram.fill(BOTH);
         }
     }
-    false
-}
 
-// Makes a RAM word with a place that allows both bits do so in every place.
-fn whole_word(state: &mut [Level], first: usize) {
-    let last = first.saturating_add(16);
-    for place in first..last {
-        if at(state, place) == BOTH {
-            for other in first..last {
-                put(state, other, BOTH);
+    // Makes each RAM word with a place that allows both bits do so in every place.
+    fn widen_words(&mut self, nets: usize) {
+        if let Some(ram) = self.levels.as_mut_slice().get_mut(nets..) {
+            for word in ram.chunks_mut(16) {
+                if word.contains(&BOTH) {
+                    word.fill(BOTH);
+                }
             }
         }
     }
@@ -53,19 +57,15 @@ impl Rule {
         }
     }
 
-    // Merges the kept state into a new one, which has `nets` nets, then `words` RAM words.
-    pub(crate) fn merge(self, kept: &[Level], state: &mut [Level], nets: usize, words: usize) {
-        let forget = self.base == Base::Eager && ram_differs(kept, state, nets);
-        merge_places(kept, state);
+    // Merges the kept state into a new one, which has `nets` nets, and RAM words after them.
+    pub(crate) fn merge(self, kept: &State, state: &mut State, nets: usize) {
+        let forget = self.base == Base::Eager && state.ram_differs(kept, nets);
+        state.merge_places(kept);
         if forget {
-            for place in nets..state.len() {
-                put(state, place, BOTH);
-            }
+            state.forget_ram(nets);
         }
         for _ in 0..self.words {
-            for word in 0..words {
-                whole_word(state, nets.saturating_add(word.saturating_mul(16)));
-            }
+            state.widen_words(nets);
         }
     }
 }

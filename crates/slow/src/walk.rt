@@ -1,14 +1,14 @@
 // Open points taken, the highest number first.
-use crate::level::{BOTH, Level, at};
+use crate::level::BOTH;
 use crate::record::{Entry, Fate, Record};
 use crate::rule::Rule;
-use crate::settle::{set_constants, set_pilots};
-use crate::steps::{Successor, successors};
-use slow_tag::{Refusal, Stop, Tag, ask, bit, refuse};
-use std::alloc::Global;
+use crate::state::State;
+use crate::steps::successors;
+use slow_tag::{Question, Refusal, Stop, Tag, ask, bit, refuse};
+use std::alloc::{AllocError, Global};
 
 // How a walk ends: its budget is spent, no point is open, or one is refused.
-#[derive(Clone, Copy)]
+#[derive(Clone, Copy, PartialEq, Eq, Debug)]
 pub enum Ending {
     Spent,
     Done,
@@ -17,7 +17,7 @@ pub enum Ending {
 
 // What is done with a taken point: it is walked without a look at the kept states, or its state is kept, or it is cut to a point,
 // or its merged state takes the place of the one kept.
-#[derive(Clone, Copy)]
+#[derive(Clone, Copy, PartialEq, Eq)]
 enum Treatment {
     Pass,
     Keep,
@@ -25,38 +25,17 @@ enum Treatment {
     Replace(usize),
 }
 
-// Does one state cover another, place by place?
-fn covers(kept: &[Level], state: &[Level]) -> bool {
-    for place in 0..state.len() {
-        if !at(kept, place).covers(at(state, place)) {
-            return false;
-        }
-    }
-    true
+// Counts one more, if so.
+fn count_if(seen: &mut usize, so: bool) {
+    *seen = seen.saturating_add(so as usize);
 }
 
 impl Record {
     // The place, among the open points, of the one with the highest number.
-    fn highest(&self) -> usize {
-        let mut best = 0;
-        let mut number = 0;
-        for (slot, open) in self.open.iter().enumerate() {
-            if number <= open.number {
-                best = slot;
-                number = open.number;
-            }
-        }
-        best
-    }
-
-    // The place of the entry with a key.
-    fn entry_of(&self, key: usize) -> Option<usize> {
-        for (place, entry) in self.entries.iter().enumerate() {
-            if entry.key == key {
-                return Some(place);
-            }
-        }
-        None
+    fn highest(&self) -> Option<usize> {
+        let open = self.open.iter().enumerate();
+        open.max_by_key(|(_, open)| open.number)
+            .map(|(slot, _)| slot)
     }
 
     // Gives a point its fate.
@@ -67,75 +46,58 @@ impl Record {
     }
 
     // What is done with a point, whose state is merged with the kept one if it is not covered.
-    fn treat(&self, tag: &Tag, rule: Rule, key: usize, state: &mut [Level]) -> Treatment {
-        if !rule.watches(at(state, tag.mark).allows(true)) {
+    fn treat(&self, tag: &Tag, rule: Rule, key: usize, state: &mut State) -> Treatment {
+        if !rule.watches(state.at(tag.mark).allows(true)) {
             return Treatment::Pass;
         }
-        let Some(place) = self.entry_of(key) else {
+        let mut entries = self.entries.iter().enumerate();
+        let Some((place, entry)) = entries.find(|(_, entry)| entry.key == key) else {
             return Treatment::Keep;
         };
-        let Some(entry) = self.entries.get(place) else {
-            return Treatment::Keep;
-        };
-        if covers(&entry.state, state) {
+        if entry.state.covers(state) {
             return Treatment::Cut(entry.point);
         }
-        rule.merge(&entry.state, state, tag.nets.len(), tag.ram.len());
-        set_pilots(tag, state, key);
-        set_constants(tag, state);
+        rule.merge(&entry.state, state, tag.nets.len());
+        state.set_pilots(tag, key);
+        state.set_constants(tag);
         Treatment::Replace(place)
     }
 
     // Is there room for an entry, if it is needed, for so many more points, and for as many open ones, one being taken?
-    fn ask_room(&self, treatment: Treatment, number: usize, count: usize) -> Result<(), Stop> {
-        let entries = match treatment {
-            Treatment::Keep => self.entries.len().saturating_add(1),
-            _ => self.entries.len(),
-        };
+    fn ask_room(&self, treatment: Treatment, number: usize, count: usize) -> Result<(), Refusal> {
+        let kept = (treatment == Treatment::Keep) as usize;
+        let entries = self.entries.len().saturating_add(kept);
         let points = self.points.len().saturating_add(count);
         let open = self.open.len().saturating_sub(1).saturating_add(count);
-        ask(entries <= self.limits.entries, 15, number)?;
-        ask(points <= self.limits.points, 16, number)?;
-        ask(open <= self.limits.open, 17, number)
+        ask(entries <= self.limits.entries, Question::EntryRoom, number)?;
+        ask(points <= self.limits.points, Question::PointRoom, number)?;
+        ask(open <= self.limits.open, Question::OpenRoom, number)
     }
 
     // Writes the entry of a point that keeps its state.
-    fn keep(&mut self, treatment: Treatment, entry: Entry) -> Result<(), Stop> {
+    fn keep(&mut self, treatment: Treatment, entry: Entry) -> Result<(), AllocError> {
         match treatment {
             Treatment::Keep => self.entries.push(entry)?,
             Treatment::Replace(place) => {
-                let before = match self.entries.get(place) {
-                    Some(old) => old.count,
-                    None => 0,
-                };
                 if let Some(old) = self.entries.get_mut(place) {
-                    *old = entry;
-                    old.count = before.saturating_add(1);
+                    let count = old.count.saturating_add(1);
+                    *old = Entry { count, ..entry };
                 }
             }
-            _ => {}
+            Treatment::Pass | Treatment::Cut(_) => {}
         }
         Ok(())
     }
 
     // Counts what kind of step is taken from a state.
-    fn note(&mut self, tag: &Tag, treatment: Treatment, state: &[Level], count: usize) {
-        if let Treatment::Replace(_) = treatment {
-            self.seen.merges = self.seen.merges.saturating_add(1);
-        }
-        if 1 < count {
-            self.seen.splits = self.seen.splits.saturating_add(1);
-        }
-        if at(state, tag.enable) == BOTH {
-            self.seen.enables = self.seen.enables.saturating_add(1);
-        }
-        let wires = tag.rom_address.iter().chain(tag.ram_address.iter());
-        for wire in wires {
-            if at(state, *wire) == BOTH {
-                self.seen.addresses = self.seen.addresses.saturating_add(1);
-                return;
-            }
-        }
+    fn note(&mut self, tag: &Tag, treatment: Treatment, state: &State, count: usize) {
+        let merged = matches!(treatment, Treatment::Replace(_));
+        let mut wires = tag.rom_address.iter().chain(&tag.ram_address);
+        count_if(&mut self.seen.merges, merged);
+        count_if(&mut self.seen.splits, 1 < count);
+        count_if(&mut self.seen.enables, state.at(tag.enable) == BOTH);
+        let address = wires.any(|wire| state.at(*wire) == BOTH);
+        count_if(&mut self.seen.addresses, address);
     }
 
     // Takes the open point at a place of the open ones.
@@ -145,10 +107,7 @@ impl Record {
         };
         let number = open.number;
         let mut state = open.state.clone()?;
-        let key = match self.points.get(number) {
-            Some(point) => point.key,
-            None => 0,
-        };
+        let key = self.points.get(number).map_or(0, |point| point.key);
         if bit(key, 0) {
             self.close(slot, number, Fate::Halted);
             return Ok(());
@@ -190,18 +149,18 @@ impl Record {
         rule: Rule,
         budget: usize,
         heap: Global,
-    ) -> Result<(usize, Ending), Stop> {
+    ) -> Result<(usize, Ending), AllocError> {
         if self.points.is_empty() {
-            return Ok((0, Ending::Refused(refuse(18, 0))));
+            return Ok((0, Ending::Refused(refuse(Question::Started, 0))));
         }
         for taken in 0..budget {
-            if self.open.is_empty() {
+            let Some(slot) = self.highest() else {
                 return Ok((taken, Ending::Done));
-            }
-            match self.take(tag, rule, self.highest(), heap) {
+            };
+            match self.take(tag, rule, slot, heap) {
                 Ok(()) => {}
                 Err(Stop::Refused(refusal)) => return Ok((taken, Ending::Refused(refusal))),
-                Err(Stop::Memory) => return Err(Stop::Memory),
+                Err(Stop::Memory(error)) => return Err(error),
             }
         }
         if self.open.is_empty() {

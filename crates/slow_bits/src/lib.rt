@@ -1,5 +1,5 @@
-// A run of a tag in bits, written the slow way: an address is a number, and a line is a list. It shares no code with the engine and
-// the player, so that what they answer can be held against it.
+// A run of a tag in bits, written the slow way: an address is a number, and a line is a list.
+// Why two: it shares no code with the engine and the player on purpose, so that what they answer can be held against it.
 #![tactic(auto)]
 
 mod bits;

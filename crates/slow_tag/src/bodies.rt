@@ -1,45 +1,42 @@
 // Memory words, wires, pilots and starts.
-use crate::contents::Row;
-use crate::fields::{byte, choices, two};
-use crate::refusal::{Stop, ask};
-use crate::tag::Net;
-use std::alloc::Global;
+use crate::contents::Body;
+use crate::fields::choices;
+use crate::refusal::{Question, Refusal, Stop, ask};
+use crate::tag::{Net, RamWord};
+use std::alloc::{AllocError, Global};
 
 // How many address bits a memory of so many words has, if there is a number of them up to `most`.
 pub(crate) fn address_bits(words: usize, most: usize) -> Option<usize> {
-    for bits in 0..=most {
-        if choices(bits) == words {
-            return Some(bits);
-        }
-    }
-    None
+    (0..=most).find(|bits| choices(*bits) == words)
 }
 
 // The entries of two bytes of a body.
-pub(crate) fn read_twos(bytes: &[u8], row: &Row, heap: Global) -> Result<Vec<usize>, Stop> {
-    let mut values = Vec::new(heap);
-    for number in 0..row.count {
-        values.push(two(bytes, row.entry(number)))?;
-    }
-    Ok(values)
+pub(crate) fn read_twos(body: Body, heap: Global) -> Result<Vec<usize>, AllocError> {
+    (0..body.count())
+        .map(|number| body.two(number, 0))
+        .collect(heap)
 }
 
-// The RAM words: no value bit is 1 under the mask.
-pub(crate) fn read_ram(bytes: &[u8], row: &Row, heap: Global) -> Result<Vec<(usize, usize)>, Stop> {
-    let mut words = Vec::new(heap);
-    for number in 0..row.count {
-        let value = two(bytes, row.entry(number));
-        let mask = two(bytes, row.entry(number).saturating_add(2));
-        ask(value & mask == 0, 9, number)?;
-        words.push((value, mask))?;
-    }
-    Ok(words)
+// A RAM word: no value bit is 1 under the mask.
+fn read_ram_word(body: Body, number: usize) -> Result<RamWord, Refusal> {
+    let word = RamWord {
+        value: body.two(number, 0),
+        mask: body.two(number, 2),
+    };
+    ask(word.value & word.mask == 0, Question::Words, number)?;
+    Ok(word)
+}
+
+pub(crate) fn read_ram(body: Body, heap: Global) -> Result<Vec<RamWord>, Stop> {
+    (0..body.count())
+        .map(|number| -> Result<RamWord, Stop> { Ok(read_ram_word(body, number)?) })
+        .try_collect(heap)
 }
 
 // Each entry names a net.
-pub(crate) fn ask_named(entries: &[usize], nets: usize, number: u8) -> Result<(), Stop> {
+pub(crate) fn ask_named(entries: &[usize], nets: usize, question: Question) -> Result<(), Refusal> {
     for (place, net) in entries.iter().enumerate() {
-        ask(*net < nets, number, place)?;
+        ask(*net < nets, question, place)?;
     }
     Ok(())
 }
@@ -49,57 +46,55 @@ fn is_pilot(entries: &[usize], nets: &[Net], place: usize, named: usize) -> bool
     if place == 0 {
         return named < nets.len();
     }
-    for other in entries.iter().take(place).skip(1) {
-        if *other == named {
-            return false;
-        }
-    }
-    match nets.get(named) {
-        Some(net) => net.is_flop(),
-        None => false,
-    }
+    let mut before = entries.iter().take(place).skip(1);
+    before.all(|other| *other != named) && nets.get(named).is_some_and(|net| net.is_flop())
 }
 
-pub(crate) fn ask_pilots(entries: &[usize], nets: &[Net]) -> Result<(), Stop> {
-    ask(2 <= entries.len() && entries.len() <= 17, 11, 0)?;
+pub(crate) fn ask_pilots(entries: &[usize], nets: &[Net]) -> Result<(), Refusal> {
+    let count = entries.len();
+    ask(2 <= count && count <= 17, Question::Pilots, 0)?;
     for (place, named) in entries.iter().enumerate() {
-        ask(is_pilot(entries, nets, place, *named), 11, place)?;
+        let fits = is_pilot(entries, nets, place, *named);
+        ask(fits, Question::Pilots, place)?;
     }
     Ok(())
 }
 
 // The numbers of the flops, in net order.
-pub(crate) fn flops(nets: &[Net], heap: Global) -> Result<Vec<usize>, Stop> {
-    let mut numbers = Vec::new(heap);
-    for (number, net) in nets.iter().enumerate() {
-        if net.is_flop() {
-            numbers.push(number)?;
-        }
-    }
-    Ok(numbers)
+pub(crate) fn flops(nets: &[Net], heap: Global) -> Result<Vec<usize>, AllocError> {
+    nets.iter()
+        .enumerate()
+        .filter(|(_, net)| net.is_flop())
+        .map(|(number, _)| number)
+        .collect(heap)
 }
 
-// The bytes of all starts, a byte for each flop: 0, 1 or, for what is no pilot, 2.
+// A start's bit for a flop, from its byte: 0, 1 or, for what is no pilot, 2.
+fn read_start(body: Body, number: usize, piloted: bool) -> Result<Option<bool>, Refusal> {
+    match body.byte(number, 0) {
+        0 => Ok(Some(false)),
+        1 => Ok(Some(true)),
+        level => {
+            ask(level == 2 && !piloted, Question::Starts, number)?;
+            Ok(None)
+        }
+    }
+}
+
+// The bits of all starts, one for each flop; none where a bit is unknown.
 pub(crate) fn read_starts(
-    bytes: &[u8],
-    row: &Row,
+    body: Body,
     flops: &[usize],
     pilots: &[usize],
     heap: Global,
-) -> Result<Vec<u8>, Stop> {
-    let rest = row.count.checked_rem(flops.len()).unwrap_or(1);
-    let starts = row.count.checked_div(flops.len()).unwrap_or(0);
-    ask(rest == 0 && 1 <= starts && starts <= 8, 12, 0)?;
-    let mut levels = Vec::new(heap);
-    for number in 0..row.count {
-        let level = byte(bytes, row.entry(number));
-        let flop = flops.get(number.checked_rem(flops.len()).unwrap_or(0));
-        let piloted = match flop {
-            Some(net) => pilots.contains(net),
-            None => true,
-        };
-        ask(level < 2 || level == 2 && !piloted, 12, number)?;
-        levels.push(level as u8)?;
-    }
-    Ok(levels)
+) -> Result<Vec<Option<bool>>, Stop> {
+    let rest = body.count().checked_rem(flops.len()).unwrap_or(1);
+    let starts = body.count().checked_div(flops.len()).unwrap_or(0);
+    ask(rest == 0 && 1 <= starts && starts <= 8, Question::Starts, 0)?;
+    (0..body.count())
+        .zip(flops.iter().cycle())
+        .map(|(number, flop)| -> Result<Option<bool>, Stop> {
+            Ok(read_start(body, number, pilots.contains(flop))?)
+        })
+        .try_collect(heap)
 }

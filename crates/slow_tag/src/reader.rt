@@ -1,48 +1,33 @@
 // A bundle read into a tag, or refused.
 use crate::bodies::{address_bits, ask_named, ask_pilots, flops, read_ram, read_starts, read_twos};
-use crate::contents::{Row, read_contents};
+use crate::contents::{Contents, Kind, read_contents};
 use crate::entries::{read_cells, read_nets};
 use crate::fields::two;
-use crate::refusal::{Stop, ask, refuse};
+use crate::refusal::{Question, Stop, ask, refuse};
 use crate::tag::{Net, Tag};
-use std::alloc::Global;
-
-// The row of a kind; the first seven rows have kinds 1 to 7.
-fn row_of(rows: &[Row], kind: usize) -> Row {
-    match rows.get(kind.saturating_sub(1)) {
-        Some(row) => *row,
-        None => Row {
-            kind,
-            zero: 0,
-            count: 0,
-            offset: 0,
-        },
-    }
-}
+use std::alloc::{AllocError, Global};
 
 // The part of a list from one place to before another.
-fn part(list: &[usize], from: usize, to: usize, heap: Global) -> Result<Vec<usize>, Stop> {
-    Ok(list.iter().take(to).skip(from).copied().collect(heap)?)
+fn part(list: &[usize], from: usize, to: usize, heap: Global) -> Result<Vec<usize>, AllocError> {
+    list.iter().take(to).skip(from).copied().collect(heap)
 }
 
 // The tag's memories, wires, pilots and starts, its nets being read.
-fn read_rest(bytes: &[u8], rows: &[Row], nets: Vec<Net>, heap: Global) -> Result<Tag, Stop> {
-    let a = address_bits(row_of(rows, 3).count, 10);
-    let b = address_bits(row_of(rows, 4).count, 8);
-    let (Some(a), Some(b)) = (a, b) else {
-        return Err(Stop::Refused(refuse(9, 0)));
-    };
-    let rom = read_twos(bytes, &row_of(rows, 3), heap)?;
-    let ram = read_ram(bytes, &row_of(rows, 4), heap)?;
-    let wires = read_twos(bytes, &row_of(rows, 5), heap)?;
+fn read_rest(bytes: &[u8], contents: &Contents, nets: Vec<Net>, heap: Global) -> Result<Tag, Stop> {
+    let none = refuse(Question::Words, 0);
+    let a = address_bits(contents.body(Kind::Rom).count(), 10).ok_or(none)?;
+    let b = address_bits(contents.body(Kind::Ram).count(), 8).ok_or(none)?;
+    let rom = read_twos(contents.body(Kind::Rom), heap)?;
+    let ram = read_ram(contents.body(Kind::Ram), heap)?;
+    let wires = read_twos(contents.body(Kind::Wires), heap)?;
     let end = a.saturating_add(b);
-    ask(wires.len() == end.saturating_add(17), 10, 0)?;
-    ask_named(&wires, nets.len(), 10)?;
-    let named = read_twos(bytes, &row_of(rows, 6), heap)?;
+    ask(wires.len() == end.saturating_add(17), Question::Wires, 0)?;
+    ask_named(&wires, nets.len(), Question::Wires)?;
+    let named = read_twos(contents.body(Kind::Pilots), heap)?;
     ask_pilots(&named, &nets)?;
     let pilots = part(&named, 1, named.len(), heap)?;
     let flops = flops(&nets, heap)?;
-    let starts = read_starts(bytes, &row_of(rows, 7), &flops, &pilots, heap)?;
+    let starts = read_starts(contents.body(Kind::Starts), &flops, &pilots, heap)?;
     Ok(Tag {
         clock: two(bytes, 4),
         window: two(bytes, 12),
@@ -65,10 +50,11 @@ fn read_rest(bytes: &[u8], rows: &[Row], nets: Vec<Net>, heap: Global) -> Result
 
 // Reads a bundle: a tag, or the first question that is answered by no.
 pub fn read_tag(bytes: &[u8], heap: Global) -> Result<Tag, Stop> {
-    let rows = read_contents(bytes, heap)?;
+    let contents = read_contents(bytes, heap)?;
     let clock = two(bytes, 4);
-    ask(1 <= clock && clock <= 200 && two(bytes, 12) != 0, 6, 0)?;
-    let cells = read_cells(bytes, &row_of(&rows, 1), heap)?;
-    let nets = read_nets(bytes, &row_of(&rows, 2), &cells, heap)?;
-    read_rest(bytes, &rows, nets, heap)
+    let fits = 1 <= clock && clock <= 200 && two(bytes, 12) != 0;
+    ask(fits, Question::Clock, 0)?;
+    let cells = read_cells(contents.body(Kind::Cells), heap)?;
+    let nets = read_nets(contents.body(Kind::Nets), &cells, heap)?;
+    read_rest(bytes, &contents, nets, heap)
 }

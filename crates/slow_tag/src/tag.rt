@@ -1,5 +1,10 @@
 // A tag in plain tables.
+ghost use Rattle.std.specs.Prelude.{◌≡◌, true, false, min, take, IfOk};
+ghost use Rattle.slow_tag.specs.Known.{flops_in, net_bit, ram_bit, known_of};
+ghost use Rattle.slow_tag.specs.Uses.{holds_a_bit, constant_of};
+
 use crate::fields::bit;
+use std::alloc::{AllocError, Global};
 
 // What a cell is used for.
 #[derive(Clone, Copy, PartialEq, Eq, Debug)]
@@ -13,6 +18,19 @@ pub enum Use {
     One,
 }
 
+impl Use {
+    // The uses in the order of their numbers.
+    pub(crate) const ALL: [Use; 7] = [
+        Use::Gate,
+        Use::Flop,
+        Use::EnabledFlop,
+        Use::Input,
+        Use::MemoryBit,
+        Use::Zero,
+        Use::One,
+    ];
+}
+
 #[derive(Clone, Copy, Debug)]
 pub struct Cell {
     pub pins: usize,
@@ -24,10 +42,19 @@ pub struct Cell {
 }
 
 // A net: its cell, and the nets at the cell's pins. A memory bit has 0 for ROM or 1 for RAM, then the bit.
+// Why an array: a bundle has four pin fields for every net, and the unused ones are asked to be 0.
 #[derive(Clone, Copy, Debug)]
 pub struct Net {
     pub cell: Cell,
+    // Why numbers: a memory bit keeps its pin fields as the bundle has them, the memory's number among them.
     pub pins: [usize; 4],
+}
+
+// A RAM word: its value, and the mask of the bits that are unknown.
+#[derive(Clone, Copy, PartialEq, Eq, Debug)]
+pub struct RamWord {
+    pub value: usize,
+    pub mask: usize,
 }
 
 #[derive(Drop)]
@@ -39,22 +66,25 @@ pub struct Tag {
     pub write_energy: u32,
     pub nets: Vec<Net>,
     pub rom: Vec<usize>,
-    // The value and the unknown mask of each word.
-    pub ram: Vec<(usize, usize)>,
+    pub ram: Vec<RamWord>,
     pub rom_address: Vec<usize>,
     pub ram_address: Vec<usize>,
     pub enable: usize,
     pub written: Vec<usize>,
     pub mark: usize,
     pub pilots: Vec<usize>,
-    // One byte for each flop of each start.
-    pub starts: Vec<u8>,
+    // The bit of each flop of each start, in net order; none where it is unknown.
+    pub starts: Vec<Option<bool>>,
     pub flops: usize,
 }
 
 impl Cell {
     // What the cell draws when its net goes from one bit to another.
-    pub fn toggle(&self, from: bool, to: bool) -> u32 {
+    pub fn toggle(&self, from: bool, to: bool) -> u32
+        ensures rise { from ≡ false → to ≡ true → result ≡ self.now.rise }
+        ensures fall { from ≡ true → to ≡ false → result ≡ self.now.fall }
+        ensures same { from ≡ to → result ≡ 0 }
+    {
         match (from, to) {
             (false, true) => self.rise,
             (true, false) => self.fall,
@@ -64,17 +94,37 @@ impl Cell {
 }
 
 impl Net {
-    pub fn is_flop(&self) -> bool {
+    pub fn is_flop(&self) -> bool
+        ensures { result ≡ holds_a_bit self.now.cell.duty }
+    {
         matches!(self.cell.duty, Use::Flop | Use::EnabledFlop)
     }
 
+    // The nets at the pins that its cell uses.
+    pub fn inputs(&self) -> &[usize]
+        ensures { result.now ≡ take (min self.now.cell.pins 4) self.now.pins }
+    {
+        &self.pins[..self.cell.pins.min(4)]
+    }
+
     // The bit of a constant.
-    pub fn constant(&self) -> Option<bool> {
+    pub fn constant(&self) -> Option<bool>
+        ensures { result ≡ constant_of self.now.cell.duty }
+    {
         match self.cell.duty {
             Use::Zero => Some(false),
             Use::One => Some(true),
             _ => None,
         }
+    }
+}
+
+impl RamWord {
+    // A bit as the bundle has it; none if it is unknown.
+    fn bit(&self, place: usize) -> Option<bool>
+        ensures { result ≡ ram_bit self.now place }
+    {
+        (!bit(self.mask, place)).then_some(bit(self.value, place))
     }
 }
 
@@ -99,30 +149,39 @@ impl Tag {
 
     // How many inputs there are.
     pub fn input_count(&self) -> usize {
-        let mut count = 0usize;
-        for net in self.nets.iter() {
-            if let Use::Input = net.cell.duty {
-                count = count.saturating_add(1);
-            }
-        }
-        count
+        let inputs = self.nets.iter().filter(|net| net.cell.duty == Use::Input);
+        inputs.count()
     }
 
-    // A RAM bit as the bundle has it; none if it is unknown.
-    pub fn ram_bit(&self, word: usize, place: usize) -> Option<bool> {
-        match self.ram.get(word) {
-            Some((value, mask)) if !bit(*mask, place) => Some(bit(*value, place)),
-            _ => None,
+    // How many flops come before a net.
+    fn flops_before(&self, number: usize) -> usize
+        ensures { result ≡ flops_in (take number self.now.nets.items) }
+    {
+        let before = self.nets.iter().take(number);
+        before.filter(|net| net.is_flop()).count()
+    }
+
+    // The bit of a net at a start, none where it is unknown.
+    fn net_bit(&self, start: usize, number: usize, net: &Net) -> Option<bool>
+        ensures { result ≡ net_bit self.now start number net.now }
+    {
+        if net.is_flop() {
+            let first = start.saturating_mul(self.flops);
+            let place = first.saturating_add(self.flops_before(number));
+            self.starts.get(place).copied().flatten()
+        } else {
+            net.constant()
         }
     }
 
-    // The bit of a start's flop, counted in net order; none if it is unknown.
-    pub fn start_bit(&self, start: usize, flop: usize) -> Option<bool> {
-        let place = start.saturating_mul(self.flops).saturating_add(flop);
-        match self.starts.get(place) {
-            Some(0) => Some(false),
-            Some(1) => Some(true),
-            _ => None,
-        }
+    // The bits of a start that are known before its gates settle, place by place: flops, constants and RAM as the bundle has them.
+    pub fn known_bits(&self, start: usize, heap: Global) -> Result<Vec<Option<bool>>, AllocError>
+        ensures { IfOk result (λ known. known.items ≡ known_of self.now start) }
+    {
+        let nets = self.nets.iter().enumerate();
+        let words = self.ram.iter();
+        nets.map(|(number, net)| self.net_bit(start, number, net))
+            .chain(words.flat_map(|word| (0..16).map(move |place| word.bit(place))))
+            .collect(heap)
     }
 }

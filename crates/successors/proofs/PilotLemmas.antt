@@ -1,6 +1,7 @@
 -- Pilots taken one after the other. Assumes nothing.
-use Rattle.std.proofs.Common.{◌≡◌, ℕ, ◌+◌, ◌*◌, ◌/◌, ◌%◌, ◌^◌, ◌<◌, ◌≤◌, Bool, true, false, cond, eqb, List, length, get_or, drop, set, sym, ap, ◌∙◌, mul_assoc, pow-suc, mul-add, add-one, arith, pow_mono}
+use Rattle.std.proofs.Common.{◌≡◌, ℕ, ◌+◌, ◌*◌, ◌/◌, ◌%◌, ◌^◌, ◌<◌, ◌≤◌, Bool, true, false, cond, count_by, eqb, List, [], ◌∷◌, length, get_or, drop, set, sym, refl, ap, ◌∙◌, mul_assoc, pow-suc, mul-add, add-one, arith, pow_mono}
 use Rattle.std.proofs.lemmas.List.{at_drop_more}
+use Rattle.std.proofs.lemmas.List.Sums.{sum_by-cons}
 use Rattle.std.proofs.lemmas.Bool.{cond-true, cond-false}
 use Rattle.levels.specs.Kinds.{Kind}
 use Rattle.model.specs.Cycle.{at}
@@ -32,9 +33,10 @@ module _ {V : Type 0} (k : Kind V) where
       keyed k (drop (i + 1) ps) (key / 2) (set s (get_or ps i 0) (k.of_bit (eqb (key % 2) 1))) ≡ keyed k (drop i ps) key s
   keyed_more ps i key s h = sym (at_drop_more (λ (qs : List ℕ). keyed k qs key s) ps i 0 h)
 
-  pub unknowns_more : (ps : List ℕ) (i : ℕ) (s : List V) → i < length ps →
-      unknowns k (drop i ps) s ≡ cond (is_unknown k (at k s (get_or ps i 0))) 1 0 + unknowns k (drop (i + 1) ps) s
-  unknowns_more ps i s h = at_drop_more (λ (qs : List ℕ). unknowns k qs s) ps i 0 h
+  pub unknowns_counted : (ps : List ℕ) (s : List V) → count_by (λ p. is_unknown k (at k s p)) ps ≡ unknowns k ps s
+  unknowns_counted [] s = refl
+  unknowns_counted (p ∷ ps) s =
+      sum_by-cons (λ (q : ℕ). cond (is_unknown k (at k s q)) 1 0) p ps ∙ ap (λ (n : ℕ). cond (is_unknown k (at k s p)) 1 0 + n) (unknowns_counted ps s)
 
   -- of an unknown pilot the bit is the choice's lowest, and of a known one its own
   pub split_more : (ps : List ℕ) (i : ℕ) (s : List V) (j : ℕ) → i < length ps → is_unknown k (at k s (get_or ps i 0)) ≡ true →

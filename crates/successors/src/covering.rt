@@ -15,13 +15,9 @@ fn level_covers<V: Level>(kept: V, level: V) -> bool
 pub fn covers<V: Level>(kept: &[V], state: &[V]) -> bool
     ensures { result ≡ covers_all V.kind kept.now state.now }
 {
-    if kept.len() != state.len() {
-        return false;
-    }
-    for (i, level) in state.iter().enumerate() {
-        if !level_covers(kept[i], *level) {
-            return false;
-        }
-    }
-    true
+    kept.len() == state.len()
+        && kept
+            .iter()
+            .zip(state)
+            .all(|(kept, level)| level_covers(*kept, *level))
 }

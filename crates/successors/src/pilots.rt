@@ -1,5 +1,6 @@
 // The pilots of a state: set to a key, counted, and split into keys.
-ghost use Rattle.std.specs.Prelude.{◌≡◌, ◌≤◌, length};
+ghost use Rattle.std.specs.Prelude.{◌≡◌, ◌<◌, ◌≤◌, length};
+ghost use Rattle.model.specs.Cycle.{at};
 ghost use Rattle.record.specs.Record.{keyed, unknowns, choice_key, is_unknown};
 ghost use Rattle.successors.specs.Lent.{Within};
 
@@ -10,11 +11,20 @@ pub(crate) fn set_pilots<V: Level>(pilots: &[u16], key: u16, state: &mut [V])
     requires { Within pilots.now state.old }
     ensures { state.new ≡ keyed V.kind pilots.now key state.old }
 {
+    // Why halved: with `key >> i` this function too would ask for at most 16 pilots.
     let mut bits = key;
     for pilot in pilots {
         state[*pilot as usize] = V::of_bit(bits % 2 == 1);
         bits /= 2;
     }
+}
+
+// The level of a pilot.
+fn level_at<V: Level>(state: &[V], pilot: u16) -> V
+    requires { pilot < length state.now }
+    ensures { result ≡ at V.kind state.now pilot }
+{
+    state[pilot as usize]
 }
 
 fn is_unknown<V: Level>(level: V) -> bool
@@ -24,21 +34,19 @@ fn is_unknown<V: Level>(level: V) -> bool
 }
 
 // How many pilots may be either bit.
-pub(crate) fn count_unknown<V: Level>(pilots: &[u16], state: &[V]) -> u32
+pub(crate) fn count_unknown<V: Level>(pilots: &[u16], state: &[V]) -> usize
     requires within { Within pilots.now state.now }
     requires few { length pilots.now ≤ 16 }
     ensures value { result ≡ unknowns V.kind pilots.now state.now }
     ensures bound { result ≤ 16 }
 {
-    let mut count = 0;
-    for pilot in pilots {
-        if is_unknown(state[*pilot as usize]) {
-            count += 1;
-        }
-    }
-    count
+    pilots
+        .iter()
+        .filter(|pilot| is_unknown(level_at(state, **pilot)))
+        .count()
 }
 
+// Why two: a key of the engine has its bits at the same weights; a function for both would be public, for the one line of a shift.
 // The key of a choice: the bits of the choice go to the unknown pilots in turn, the lowest first, and a known pilot has its own.
 pub(crate) fn choice_key<V: Level>(pilots: &[u16], state: &[V], choice: u32) -> u16
     requires within { Within pilots.now state.now }
@@ -48,7 +56,7 @@ pub(crate) fn choice_key<V: Level>(pilots: &[u16], state: &[V], choice: u32) -> 
     let mut key = 0;
     let mut bits = choice;
     for (i, pilot) in pilots.iter().enumerate() {
-        let level = state[*pilot as usize];
+        let level = level_at(state, *pilot);
         let mut bit = level.allows(true);
         if is_unknown(level) {
             bit = bits % 2 == 1;

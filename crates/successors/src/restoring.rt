@@ -6,7 +6,7 @@ ghost use Rattle.engine.specs.Refusals.{wrong_memory};
 ghost use Rattle.record.specs.Record.{with_constants, restored};
 
 use crate::pilots::set_pilots;
-use bundle::{Fault, Refusal};
+use bundle::{Fault, Refusal, ask};
 use design::Design;
 use levels::Level;
 use model::{Driver, Net};
@@ -16,6 +16,7 @@ fn set_constants<V: Level>(nets: &[Net], state: &mut [V])
     requires { length nets.now ≤ length state.old }
     ensures { (d : Core) → state.new ≡ with_constants V.kind d 0 nets.now state.old }
 {
+    // Why by index: a proof knows nothing of what is written through `zip`.
     for (i, net) in nets.iter().enumerate() {
         if let Driver::Constant { bit } = net.driver {
             state[i] = V::of_bit(bit);
@@ -32,12 +33,7 @@ pub fn restore<V: Level>(design: &Design, key: u16, state: &mut [V]) -> Result<(
         (λ e. (length state.old ≢ places (core design.now))
         × (e ≡ wrong_memory) × (state.new ≡ state.old)) }
 {
-    if state.len() != design.places() {
-        return Err(Refusal {
-            fault: Fault::Memory,
-            place: 0,
-        });
-    }
+    ask(state.len() == design.places(), Fault::Memory)?;
     set_pilots(design.pilots(), key, state);
     set_constants(design.nets(), state);
     Ok(())

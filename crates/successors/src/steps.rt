@@ -9,7 +9,7 @@ ghost use Rattle.record.specs.Record.{keyed, choice_key, unknown_inputs, success
 ghost use Rattle.successors.specs.Lent.{SuccessorMemory};
 
 use crate::pilots::{choice_key, count_unknown, set_pilots};
-use bundle::{Fault, Refusal};
+use bundle::{Fault, Refusal, ask};
 use design::Design;
 use levels::Level;
 
@@ -59,12 +59,9 @@ pub fn successor<V: Level>(
         × (slot.new ≡ after_key V.kind (core design.now) state.now answer.0)) }
 {
     let places = design.places();
-    if state.len() != places || next.len() != places || slot.len() != places {
-        return Err(Refusal {
-            fault: Fault::Memory,
-            place: 0,
-        });
-    }
+    ask(state.len() == places, Fault::Memory)?;
+    ask(next.len() == places, Fault::Memory)?;
+    ask(slot.len() == places, Fault::Memory)?;
     let pilots = design.pilots();
     let key = choice_key(pilots, next, choice);
     slot.copy_from_slice(next);

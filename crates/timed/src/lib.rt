@@ -4,6 +4,7 @@
 
 mod playing;
 mod points;
+mod rounds;
 mod walking;
 
 pub use playing::timed_play;

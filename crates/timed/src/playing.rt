@@ -1,7 +1,8 @@
+use crate::rounds::repeat;
 use decode::read_design;
 use design::Design;
 use levels::Bit;
-use player::{Cycle, play};
+use player::{Buffers, Cycle, play};
 use std::alloc::{AllocError, Global};
 
 // The cycles of a run over the lines, played so often.
@@ -15,11 +16,14 @@ fn play_rounds(
     let mut state = vec![in heap; Bit::Zero; places]?;
     let mut scratch = vec![in heap; Bit::Zero; 2 * places + 1024]?;
     let mut cycles = vec![in heap; Cycle { key: 0, energy: 0 }; lines.len()]?;
-    let mut count = 0;
-    for _round in 0..rounds {
-        count = play(design, lines, &mut state, &mut scratch, &mut cycles).unwrap_or(0);
-    }
-    cycles.truncate(count);
+    repeat(rounds, &mut cycles, |cycles| {
+        let mut lent = Buffers {
+            state: &mut state,
+            scratch: &mut scratch,
+            cycles,
+        };
+        play(design, lines, &mut lent)
+    });
     Ok(cycles)
 }
 
@@ -30,11 +34,10 @@ pub extern "C" fn timed_play(heap: Global, tag: &[u8], lines: &[u8], rounds: u32
     if read_design(&mut design, tag).is_err() {
         return 0;
     }
-    let mut sum: u64 = 0;
-    if let Ok(cycles) = play_rounds(heap, &design, lines, rounds) {
-        for cycle in cycles.iter() {
-            sum = sum.wrapping_add(u64::from(cycle.energy));
-        }
-    }
-    sum
+    play_rounds(heap, &design, lines, rounds).map_or(0, |cycles| {
+        cycles
+            .iter()
+            .map(|cycle| u64::from(cycle.energy))
+            .fold(0, u64::wrapping_add)
+    })
 }

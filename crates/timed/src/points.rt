@@ -1,3 +1,4 @@
+use figures::Rows;
 use record::{Fate, Origin, Point};
 use std::alloc::{AllocError, Global};
 
@@ -9,35 +10,29 @@ fn made_up(i: u16, count: u16) -> Point {
     } else {
         Fate::Cut { to: i % 1000 }
     };
-    if i == 0 {
-        return Point {
-            origin: Origin::Start,
-            key: 0,
-            charge: 0,
+    match i.checked_sub(1) {
+        None => Point {
             fate,
-        };
+            ..Point::default()
+        },
+        Some(before) => Point {
+            origin: Origin::From { point: before / 2 },
+            key: 0,
+            charge: 1000 + u32::from(i) * 7919 % 1009,
+            fate,
+        },
     }
-    Point {
-        origin: Origin::From { point: (i - 1) / 2 },
-        key: 0,
-        charge: 1000 + u32::from(i) * 7919 % 1009,
-        fate,
-    }
-}
-
-fn made_up_points(heap: Global, count: u16) -> Result<Vec<Point>, AllocError> {
-    let mut points = Vec::new(heap);
-    for i in 0..count {
-        points.push(made_up(i, count))?;
-    }
-    Ok(points)
 }
 
 fn window_of(heap: Global, count: u16, width: u16) -> Result<u64, AllocError> {
-    let points = made_up_points(heap, count)?;
+    let points: Vec<Point> = (0..count).map(|i| made_up(i, count)).collect(heap)?;
     let mut row = vec![in heap; 0; count as usize]?;
     let mut other = vec![in heap; 0; count as usize]?;
-    Ok(figures::window(&points, width, &mut row, &mut other).unwrap_or(0))
+    let mut rows = Rows {
+        row: &mut row,
+        other: &mut other,
+    };
+    Ok(figures::window(&points, width, &mut rows).unwrap_or(0))
 }
 
 // The window of `width` over `count` points that are made up; 0 if it is refused.

@@ -1,9 +1,10 @@
+use crate::rounds::repeat;
 use bundle::Refusal;
 use decode::read_design;
 use design::Design;
 use explore::Exploration;
 use levels::Tri;
-use record::{Fate, Origin, Point};
+use record::Point;
 use rules::Plain;
 use std::alloc::{AllocError, Global};
 
@@ -11,13 +12,6 @@ use std::alloc::{AllocError, Global};
 const SLOTS: usize = 64;
 
 const ENTRIES: usize = 256;
-
-const NO_POINT: Point = Point {
-    origin: Origin::Start,
-    key: 0,
-    charge: 0,
-    fate: Fate::Open,
-};
 
 // An exploration of all starts, over this memory: how many points there are in the end.
 fn explore(
@@ -44,15 +38,13 @@ fn explore_rounds(
     rounds: u32,
 ) -> Result<Vec<Point>, AllocError> {
     let places = design.places().min(8192);
-    let mut points = vec![in heap; NO_POINT; most as usize]?;
+    let mut points = vec![in heap; Point::default(); most as usize]?;
     let mut opened = vec![in heap; Tri::X; SLOTS * places]?;
     let mut kept = vec![in heap; Tri::X; ENTRIES * places]?;
     let mut scratch = vec![in heap; Tri::X; 2 * places + 1024]?;
-    let mut count = 0;
-    for _round in 0..rounds {
-        count = explore(design, &mut points, &mut opened, &mut kept, &mut scratch).unwrap_or(0);
-    }
-    points.truncate(count);
+    repeat(rounds, &mut points, |points| {
+        explore(design, points, &mut opened, &mut kept, &mut scratch)
+    });
     Ok(points)
 }
 
@@ -64,13 +56,10 @@ pub extern "C" fn timed_walk(heap: Global, tag: &[u8], most: u32, rounds: u32) -
     if read_design(&mut design, tag).is_err() {
         return 0;
     }
-    let mut sum: u64 = 0;
-    if let Ok(points) = explore_rounds(heap, &design, most, rounds) {
-        for point in points.iter() {
-            sum = sum
-                .wrapping_add(u64::from(point.charge))
-                .wrapping_add(1 << 32);
-        }
-    }
-    sum
+    explore_rounds(heap, &design, most, rounds).map_or(0, |points| {
+        points
+            .iter()
+            .map(|point| u64::from(point.charge).wrapping_add(1 << 32))
+            .fold(0, u64::wrapping_add)
+    })
 }

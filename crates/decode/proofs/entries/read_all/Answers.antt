@@ -1,19 +1,29 @@
-use Rattle.std.proofs.Common.{◌≡◌, ℕ, sym, ◌∙◌, arith}
-use Rattle.decode.proofs.Asking.{reading_more, reading_stop, reading_all, reading_table}
+use Rattle.std.proofs.Common.{drop, replicate, Some, sym, ap, ◌∙◌, arith}
+use Rattle.std.proofs.lemmas.Result.{err_from_is_err_and}
+use Rattle.bundle.specs.declared.refusal.Refusal.{Refusal}
+use Rattle.decode.proofs.Asking.{room_long, reading_more, reading_stop, reading_all, reading_table}
+use Rattle.decode.proofs.Refusing.{none_from_err, handed_on}
 use Rattle.decode.proofs.entries.read_all.Goals as goal
 
-pub returns-in-None : goal.returns-in-None
-returns-in-None g c = record {
-  refusal = reading_stop (g.E.Entries.reads c.args.body.now) c.args.fault (g.E.Entries.size c.args.body.now) c.loop-i.i c.loop-i.table (omega arith) (sym c.read.ensures ∙ c.in-None.is) c.loop-i.invariant;
-  table = λ e. absurd (let z : ◌≡◌ {A = ℕ} 0 1 = cc in omega arith);
-}
+pub returns-in_err-value-clause-refusal : goal.returns-in_err-value-clause-refusal
+returns-in_err-value-clause-refusal g c reads h =
+    let q = err_from_is_err_and c.from_residual.result c.from_residual.ensures.1 in
+    let n = none_from_err c.read.result _ c.in_err-value.field-0.0 (sym c.in_err-value.ensures.value) in
+    let l = room_long c.args.count g.row.N c.args.blank c.requires.room in
+    handed_on c.from_residual.result q.0 c.in_err-value.field-0.0 _ q.1 q.2
+    (ap (λ (r : Refusal). Some r) n.1
+    ∙ reading_stop reads c.args.fault c.args.count c.loop-i.i c.loop-i.value-items (omega arith) (sym (h.each c.loop-i.i (omega arith) _ c.read.ensures) ∙ n.0) (c.loop-i.invariant reads h))
 
 pub loop-i-preserved : goal.loop-i-preserved
-loop-i-preserved g c =
-    reading_more (g.E.Entries.reads c.args.body.now) c.args.fault (g.E.Entries.size c.args.body.now) c.loop-i.i c.loop-i.table c.in-Some.entry (omega arith) (omega arith) (sym c.read.ensures ∙ c.in-Some.is) c.loop-i.invariant
+loop-i-preserved g c reads h =
+    let l = room_long c.args.count g.row.N c.args.blank c.requires.room in
+    reading_more reads c.args.fault c.args.count c.loop-i.i c.loop-i.value-items c.in_ok-value.field-0 (omega arith) (omega arith)
+    (sym (h.each c.loop-i.i (omega arith) _ c.read.ensures) ∙ c.in_ok-value.ensures.ok_part) (c.loop-i.invariant reads h)
 
 pub returns : goal.returns
-returns g c = record {
-  refusal = reading_all (g.E.Entries.reads c.args.body.now) c.args.fault (g.E.Entries.size c.args.body.now) c.loop-i.i c.loop-i.table (omega arith) c.loop-i.invariant;
-  table = λ e. reading_table (g.E.Entries.reads c.args.body.now) c.args.fault (g.E.Entries.size c.args.body.now) c.loop-i.i c.loop-i.table (omega arith) (omega arith) c.loop-i.invariant;
-}
+returns g c =
+    let l = room_long c.args.count g.row.N c.args.blank c.requires.room in
+    record {
+      refusal = λ reads h. reading_all reads c.args.fault c.args.count c.loop-i.i c.loop-i.value-items (omega arith) (c.loop-i.invariant reads h);
+      items = λ reads h. reading_table reads c.args.fault c.args.count c.loop-i.i c.loop-i.value-items (drop c.args.count (replicate g.row.N c.args.blank)) (omega arith) (omega arith) (c.loop-i.invariant reads h) c.args.blank;
+    }

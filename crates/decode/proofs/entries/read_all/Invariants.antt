@@ -1,6 +1,8 @@
+use Rattle.std.proofs.Common.{ℕ, Option}
+use Rattle.decode.specs.Entries.{Reads}
 use Rattle.decode.proofs.Asking.{Reading}
 use Rattle.decode.proofs.entries.read_all.Given as goal
 
 abbrev pub invariant-loop-i : goal.invariant-loop-i
 invariant-loop-i g l =
-    Reading (g.E.Entries.reads l.body) l.fault (g.E.Entries.size l.body) l.i l.table
+    (reads : ℕ → Option g.row.T.Denot) → Reads (goal.F-post g) l.read reads l.count → Reading reads l.fault l.count l.i l.value-items

@@ -1,16 +1,13 @@
-use Rattle.std.proofs.Common.{sym, ◌∙◌, arith}
+use Rattle.std.proofs.Common.{eqb, ◌-◌, refl, ◌∙◌, rules, tests}
+use Rattle.std.specs.List.{range_with_len}
+use Rattle.std.proofs.lemmas.Iterator.{YieldsList-from_range}
+use Rattle.std.proofs.lemmas.Iterator.Search.{any_from_yields_List}
 use Rattle.decode.specs.Words.{word}
-use Rattle.decode.proofs.Steps.{among_more, among_here}
+use Rattle.decode.proofs.Chains.{any_among_map}
 use Rattle.decode.proofs.pilots.repeated.Goals as goal
 
-pub returns-then-p-word : goal.returns-then-p-word
-returns-then-p-word c =
-    sym (among_here (word c.args.bytes.now) c.args.p c.loop-j.j c.args.i (omega arith)
-    (c.if-p-word.true ∙ c.word.ensures))
-    ∙ c.loop-j.invariant
-
-pub loop-j-preserved : goal.loop-j-preserved
-loop-j-preserved c =
-    sym (among_more (word c.args.bytes.now) c.args.p c.loop-j.j c.args.i (omega arith)
-    (λ e. c.if-p-word.false (e ∙ sym c.word.ensures)))
-    ∙ c.loop-j.invariant
+pub returns : goal.returns
+returns c =
+    any_from_yields_List (λ j. eqb c.args.p (word c.args.bytes.now j)) _ _ c.any.result c.any.ensures.ran (YieldsList-from_range 1 c.args.i (c.args.i - 1) refl refl)
+    (λ x b q k. search (rules, tests))
+    ∙ any_among_map (word c.args.bytes.now) c.args.p (range_with_len 1 (c.args.i - 1))

@@ -1,16 +1,13 @@
-use Rattle.std.proofs.Common.{◌+◌, sym, ◌∙◌, arith}
-use Rattle.std.proofs.lemmas.Nat.{one_shl}
-use Rattle.decode.proofs.Steps.{bits_more, bits_here}
+use Rattle.std.proofs.Common.{◌+◌, ◌^◌, ◌*◌, ◌%◌, eqb, sym, refl, ◌∙◌, rules, tests, arith}
+use Rattle.std.proofs.lemmas.Iterator.{YieldsList-from_range}
+use Rattle.std.proofs.lemmas.Iterator.Adapters.{option_map_id}
+use Rattle.std.proofs.lemmas.Iterator.Search.{find_from_yields_List}
+use Rattle.decode.proofs.Chains.{find_bits}
 use Rattle.decode.proofs.words.address_bits.Goals as goal
 
-pub returns-then-words-bits : goal.returns-then-words-bits
-returns-then-words-bits c =
-    sym (bits_here c.args.words c.loop-bits.bits (c.args.most + 1) (omega arith)
-    (c.if-words-bits.true ∙ one_shl c.loop-bits.bits 64 (omega arith)))
-    ∙ c.loop-bits.invariant
-
-pub loop-bits-preserved : goal.loop-bits-preserved
-loop-bits-preserved c =
-    sym (bits_more c.args.words c.loop-bits.bits (c.args.most + 1) (omega arith)
-    (λ e. c.if-words-bits.false (e ∙ sym (one_shl c.loop-bits.bits 64 (omega arith)))))
-    ∙ c.loop-bits.invariant
+pub returns : goal.returns
+returns c =
+    sym (option_map_id c.find.result)
+    ∙ (find_from_yields_List (λ b. eqb c.args.words ((1 * 2 ^ b) % 2 ^ 64)) _ _ c.find.result c.find.ensures.ran (YieldsList-from_range 0 (c.args.most + 1) (c.args.most + 1) refl (omega arith))
+    (λ x b q k. search (rules, tests))
+    ∙ find_bits c.args.words 0 (c.args.most + 1) (omega arith))

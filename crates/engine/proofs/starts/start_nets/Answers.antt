@@ -11,7 +11,7 @@ use Rattle.engine.proofs.starts.start_nets.Goals.{in-Flop, in-Constant, in_defau
 pub overflow_mul-flop : goal.overflow_mul-flop
 overflow_mul-flop g c =
     let d = c.args.design.now in
-    record { fits = omega (arith, ap (λ (n : ℕ). c.args.number * n) c.flop_count.ensures, starts_room (core d) d.sound c.args.number c.requires.number_bound, d.starts_length, d.start_count) }
+    record { fits = omega (arith, ap (λ (n : ℕ). c.args.number * n) c.flop_count.ensures, starts_room (core d) d.sound c.args.number c.requires.number_bound, d.starts_length) }
 
 pub bounds-starts-flop : goal.bounds-starts-flop
 bounds-starts-flop g c =
@@ -23,7 +23,7 @@ pub overflow_add-flop : goal.overflow_add-flop
 overflow_add-flop g c =
     let d = c.args.design.now in
     let place = flop_place (core d) d.sound c.nets-net-items.result.now c.nets-net-items.ensures c.loop-i.i _ c.loop-i-test.true c.args.number c.requires.number_bound c.in-Flop.is in
-    record { fits = omega (arith, place.1, c.loop-i.invariant.0, d.starts_length, d.start_count) }
+    record { fits = omega (arith, place.1, c.loop-i.invariant.0, d.starts_length) }
 
 pub offset_bounds-state-i : goal.offset_bounds-state-i
 offset_bounds-state-i g c =

@@ -1,27 +1,24 @@
-use Rattle.std.proofs.Common.{◌+◌, ◌/◌, ◌<◌, length, ap, ◌∙◌, arith, rules}
-use Rattle.std.proofs.lemmas.List.{get_or-set_other}
+use Rattle.std.proofs.Common.{◌≡◌, ◌+◌, ◌*◌, ◌≤◌, length, ap, ◌∙◌, arith, length-drop}
 use Rattle.design.specs.Views.{core}
-use Rattle.engine.proofs.Starting.{ram_begun_more}
+use Rattle.engine.proofs.Starting.{below_word, ram_begun_word}
 use Rattle.engine.proofs.starts.start_ram.Goals as goal
 
-pub offset_bounds-state-first : goal.offset_bounds-state-first
-offset_bounds-state-first g c =
-    let h : length c.nets-first.result.now + c.loop-q.q < length c.args.state.now =
-    omega (arith, ap length c.nets-first.ensures, ap length c.ram-ram.ensures) in
-    search rules
-
-pub loop-q-preserved : goal.loop-q-preserved
-loop-q-preserved g c =
+pub loop-number-preserved : goal.loop-number-preserved
+loop-number-preserved g c =
     let k = g.V.Level.kind in
     let d = core c.args.design.now in
-    let s = c.loop-q.state in
-    let nets = ap length c.nets-first.ensures in
-    let ram = ap length c.ram-ram.ensures in
-    let inside : c.loop-q.q / 16 < length c.ram-ram.result.now = omega arith in (
-      (λ i h. get_or-set_other s _ i _ k.blank (omega arith) ∙ c.loop-q.invariant.0 i h),
-      ram_begun_more k d c.loop-q.q s c.ram_level.result _ (omega arith) (omega arith) c.ram-ram.result.now c.ram-ram.ensures _ inside (c.ram_level.ensures d) c.loop-q.invariant.1,
-    )
+    let s = c.loop-number.state in
+    let number = c.loop-number.number in
+    let first = c.ram_place-first.result in
+    let place : first ≡ length d.nets + 16 * number = omega (arith, c.ram_place-first.ensures.place) in
+    let inside : first ≤ length s = omega (arith, c.ram_place-first.ensures.within) in
+    let long : length c.start_word.new.levels ≡ 16 = omega (arith, c.start_word.auto.levels, length-drop first s) in
+    record {
+      nets = λ i h. below_word k s _ _ first inside long i (omega arith) ∙ c.loop-number.invariant.nets i h;
+      words = ram_begun_word k s _ _ first inside long d number place c.ram-word-items.result.now c.ram-word-items.ensures _
+          c.loop-number-test.true (c.start_word.ensures d) c.loop-number.invariant.words;
+    }
 
 pub returns : goal.returns
 returns g c =
-    record { nets = c.loop-q.invariant.0; words = λ q h. c.loop-q.invariant.1 q (omega (arith, ap length c.ram-ram.ensures)) }
+    record { nets = c.loop-number.invariant.nets; words = λ q h. c.loop-number.invariant.words q (omega (arith, ap length c.ram-word-items.ensures)) }

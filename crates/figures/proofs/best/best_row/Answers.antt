@@ -2,16 +2,11 @@ use Rattle.std.proofs.Common.{◌≡◌, ℕ, suc, ◌+◌, ◌*◌, sym, subst,
 use Rattle.figures.specs.Figures.{Best}
 use Rattle.figures.proofs.best.best_row.Goals as goal
 
-pub lengthen-requires-in-loop-pair : goal.lengthen-requires-in-loop-pair
-lengthen-requires-in-loop-pair c =
+pub lengthen-requires-in-loop-pair-clause-small : goal.lengthen-requires-in-loop-pair-clause-small
+lengthen-requires-in-loop-pair-clause-small c =
     let longer : Best c.args.points.now (suc (2 * c.loop-pair._pair)) c.lengthen.new.longer =
     c.lengthen.ensures (2 * c.loop-pair._pair) c.loop-pair.invariant in
-    record {
-      named = c.requires.named;
-      best = longer.whole;
-      longer = c.loop-pair.invariant.whole;
-      small = λ t l. omega (arith, longer.small t (omega (arith, longer.whole)));
-    }
+    λ t l. omega (arith, longer.small t (omega (arith, longer.whole)))
 
 pub loop-pair-preserved : goal.loop-pair-preserved
 loop-pair-preserved c =

@@ -1,15 +1,8 @@
-use Rattle.std.proofs.Common.{◌≡◌, ℕ, ◌+◌, List, length, get_or, sym, ap, ◌∙◌, subst, arith}
-use Rattle.std.proofs.lemmas.List.{get_or-replicate}
+use Rattle.std.proofs.Common.{◌≡◌, ◌+◌, length, sym, ap, ◌∙◌, subst, arith}
 use Rattle.record.specs.Bounds.{best_among}
-use Rattle.figures.proofs.Rows.{Counted, counted_start, counted_from}
+use Rattle.figures.proofs.BestRows.{Counted, counted_start, counted_from}
 use Rattle.figures.proofs.best.lengthen.Goals as goal
 use Rattle.figures.proofs.best.lengthen.Goals.{in-From, in_default}
-
-pub loop-q-init : goal.loop-q-init
-loop-q-init c w best t l =
-    let e : get_or c.fill.new.self t 0 ≡ 0 =
-    ap (λ (row : List ℕ). get_or row t 0) (c.fill.ensures.after (λ y e. e)) ∙ get_or-replicate (length c.args.longer.now) t 0 0 (omega arith) in
-    (e, omega arith)
 
 pub loop-q-preserved : goal.loop-q-preserved
 loop-q-preserved c w best =

@@ -1,6 +1,6 @@
 use Rattle.std.proofs.Common.{ℕ}
 use Rattle.figures.specs.Figures.{Best}
-use Rattle.figures.proofs.Rows.{Counted}
+use Rattle.figures.proofs.BestRows.{Counted}
 use Rattle.figures.proofs.best.lengthen.Given as goal
 
 abbrev pub invariant-loop-q : goal.invariant-loop-q

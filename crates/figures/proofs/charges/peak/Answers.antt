@@ -1,14 +1,15 @@
-use Rattle.std.proofs.Common.{ℕ, max, sym, ap, ◌∙◌}
-use Rattle.std.proofs.lemmas.List.{take_all}
-use Rattle.record.specs.Bounds.{peak, charge_at}
-use Rattle.record.proofs.Bound.{peak_more}
+use Rattle.std.proofs.Common.{ℕ, unwrap_or, ap, ◌∙◌, rules, tests}
+use Rattle.std.proofs.lemmas.Iterator.{YieldsList-from_slice, YieldsList-from_map}
+use Rattle.std.proofs.lemmas.Iterator.Consumers.{reduce_from_yields_List}
+use Rattle.record.specs.declared.point.Point.{Point}
+use Rattle.figures.proofs.Greatest.{greatest_max}
 use Rattle.figures.proofs.charges.peak.Goals as goal
 
-pub loop-point-preserved : goal.loop-point-preserved
-loop-point-preserved c =
-    let ps = c.args.points.now in
-    let i = c.loop-point.point-index in
-    c.max-largest.ensures ∙ ap (λ (n : ℕ). max n (charge_at ps i)) c.loop-point.invariant ∙ sym (peak_more ps i c.loop-point-test.true)
-
 pub returns : goal.returns
-returns c = c.loop-point.invariant ∙ ap peak (take_all c.loop-point.point-index c.args.points.now c.loop-point-test.false)
+returns c =
+    let ps = c.args.points.now in
+    let charge : Point → ℕ = λ p. p.charge in
+    c.unwrap_or.ensures
+    ∙ ap (λ o. unwrap_or o 0) (reduce_from_yields_List _ c.map.result _ c.max.ensures.ran
+    (YieldsList-from_map _ charge (YieldsList-from_slice ps cc) c.map.ensures.closure (λ x b q k. search (rules, tests))))
+    ∙ greatest_max charge ps

@@ -1,30 +1,17 @@
-use Rattle.std.proofs.Common.{◌+◌, Bool, ◌||◌, length, get_or, drop, sym, ap, ◌∙◌, inl, inr, ⊎_elim, arith}
-use Rattle.std.proofs.lemmas.Bool.{cases_lt}
-use Rattle.levels.specs.declared.Tri.TheVariants.{Zero}
-use Rattle.rules.specs.Merges.{differ}
-use Rattle.rules.specs.Places.{differ_more, differ_past}
-use Rattle.rules.proofs.Levels.{told_differ}
+use Rattle.std.proofs.Common.{◌∙◌, rules, tests}
+use Rattle.std.proofs.lemmas.Iterator.{YieldsList-from_slice, YieldsList-from_zip}
+use Rattle.std.proofs.lemmas.Iterator.Adapters.{YieldsList-from_skip}
+use Rattle.std.proofs.lemmas.Iterator.Consumers.{YieldsList-at}
+use Rattle.std.proofs.lemmas.Iterator.Search.{any_from_yields_List}
+use Rattle.rules.proofs.Levels.{pair_differs, differ_pairs}
 use Rattle.rules.proofs.eager.differs_from.Goals as goal
-
-pub returns-then-ne : goal.returns-then-ne
-returns-then-ne c =
-    let kept = c.args.kept.now in
-    let state = c.args.state.now in
-    let i = c.loop-i.i in
-    let told = told_differ (get_or kept i Zero) (get_or state i Zero) c.ne.result c.ne.ensures in
-    sym (c.loop-i.invariant ∙ differ_more kept state i Zero Zero (omega arith) (omega arith)
-    ∙ ap (λ (b : Bool). b || differ (drop (i + 1) kept) (drop (i + 1) state)) (told ∙ c.if-ne.true))
-
-pub loop-i-preserved : goal.loop-i-preserved
-loop-i-preserved c =
-    let kept = c.args.kept.now in
-    let state = c.args.state.now in
-    let i = c.loop-i.i in
-    let told = told_differ (get_or kept i Zero) (get_or state i Zero) c.ne.result c.ne.ensures in
-    c.loop-i.invariant ∙ differ_more kept state i Zero Zero (omega arith) (omega arith)
-    ∙ ap (λ (b : Bool). b || differ (drop (i + 1) kept) (drop (i + 1) state)) (told ∙ c.if-ne.false)
 
 pub returns : goal.returns
 returns c =
-    sym (c.loop-i.invariant ∙ differ_past c.args.kept.now c.args.state.now c.loop-i.i
-    (⊎_elim (λ l. inr (omega arith)) (λ l. inl l) (cases_lt c.loop-i.i (length c.args.kept.now))))
+    let kept = c.args.kept.now in
+    let state = c.args.state.now in
+    any_from_yields_List pair_differs c.any.new.self _ _ c.any.ensures.ran
+    (YieldsList-from_skip c.args.first (YieldsList-at c.skip.ensures.source
+    (YieldsList-from_zip (YieldsList-at c.zip.ensures.first (YieldsList-from_slice kept cc)) (YieldsList-from_slice state cc))) cc)
+    (λ x b q k. search (rules, tests))
+    ∙ differ_pairs c.args.first kept state

@@ -7,6 +7,3 @@ abbrev pub invariant-loop-first : goal.invariant-loop-first
 invariant-loop-first l =
     (l.nets ≤ l.first) × (l.first < length l.state → (l.first - l.nets) % 16 ≡ 0)
     × Halfway (whole_words l.nets l.initial.state) l.initial.state l.state l.first
-
-abbrev pub decreases-loop-first : goal.decreases-loop-first
-decreases-loop-first l = length l.initial.state - l.first

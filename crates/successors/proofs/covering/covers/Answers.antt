@@ -1,26 +1,20 @@
-use Rattle.std.proofs.Common.{sym, ◌∙◌, ap₂, arith}
-use Rattle.std.proofs.lemmas.List.{drop_all}
-use Rattle.record.specs.Record.{covers_all}
-use Rattle.successors.proofs.CoverLemmas.{covers_unequal, covers_more}
+use Rattle.std.proofs.Common.{◌≡◌, sym, ◌∙◌, rules}
+use Rattle.std.specs.List.{list_all, zip}
+use Rattle.std.proofs.lemmas.Iterator.{YieldsList-from_slice, YieldsList-from_zip}
+use Rattle.std.proofs.lemmas.Iterator.Search.{all_from_yields_List}
+use Rattle.std.proofs.lemmas.Bool.{ne_eqb}
+use Rattle.record.specs.Record.{covers}
+use Rattle.successors.proofs.CoverLemmas.{covers_unequal, covers_zip}
 use Rattle.successors.proofs.covering.covers.Goals as goal
 
 pub returns-then-kept-state : goal.returns-then-kept-state
-returns-then-kept-state g c = sym (covers_unequal g.V.Level.kind c.args.kept.now c.args.state.now c.if-kept-state.true)
+returns-then-kept-state g c =
+    let k = g.V.Level.kind in
+    let all : c.all.result ≡ list_all (λ p. covers k p.0 p.1) (zip c.args.kept.now c.args.state.now) =
+    all_from_yields_List (λ p. covers k p.0 p.1) c.all.new.self _ c.all.result c.all.ensures.ran
+    (YieldsList-from_zip (YieldsList-from_slice c.args.kept.now (cc)) (YieldsList-from_slice c.args.state.now (search rules))) (λ x b q h. search rules) in
+    all ∙ covers_zip k c.args.kept.now c.args.state.now c.if-kept-state.true
 
-pub returns-then-not-level_covers : goal.returns-then-not-level_covers
-returns-then-not-level_covers g c =
-    sym (covers_more g.V.Level.kind c.args.kept.now c.args.state.now c.loop-i.i _ _ _ c.if-kept-state.false
-    c.loop-i-test.true c.index-kept-i.is c.index-state-i.is c.if-not-level_covers.ensures)
-    ∙ c.loop-i.invariant
-
-pub loop-i-preserved : goal.loop-i-preserved
-loop-i-preserved g c =
-    sym (covers_more g.V.Level.kind c.args.kept.now c.args.state.now c.loop-i.i _ _ _ c.if-kept-state.false
-    c.loop-i-test.true c.index-kept-i.is c.index-state-i.is c.if-not-level_covers.ensures)
-    ∙ c.loop-i.invariant
-
-pub returns : goal.returns
-returns g c =
-    sym (ap₂ (covers_all g.V.Level.kind) (drop_all c.loop-i.i c.args.kept.now (omega arith))
-    (drop_all c.loop-i.i c.args.state.now (omega arith)))
-    ∙ c.loop-i.invariant
+pub returns-else-kept-state : goal.returns-else-kept-state
+returns-else-kept-state g c =
+    ne_eqb _ _ c.if-kept-state.false ∙ sym (covers_unequal g.V.Level.kind c.args.kept.now c.args.state.now c.if-kept-state.false)

@@ -1,5 +1,5 @@
 use Rattle.std.proofs.Common.{◌≡◌, ℕ, ◌+◌, ◌*◌, ◌%◌, ◌^◌, ◌<◌, Bool, true, cond, List, get_or, drop, sym, ap, ◌∙◌, ap₂, arith}
-use Rattle.std.proofs.lemmas.List.{at_drop_all, get_or_read}
+use Rattle.std.proofs.lemmas.List.{at_drop_all}
 use Rattle.model.specs.Cycle.{at}
 use Rattle.record.specs.Record.{is_unknown, choice_key}
 use Rattle.engine.proofs.Keying.{weighed}
@@ -24,8 +24,7 @@ turn g c =
     let on = c.if-is_unknown.bit in
     let next = c.if-is_unknown.bits in
     let few : i < 16 = omega (arith, c.requires.few, c.loop-i-test.true) in
-    let level : c.index-state-pilot.result ≡ at k s (get_or ps i 0) =
-    get_or_read s (get_or ps i 0) c.index-state-pilot.result (c.requires.within i c.loop-i-test.true) c.index-state-pilot.is k.blank in
+    let level : c.level_at-level.result ≡ at k s (get_or ps i 0) = c.level_at-level.ensures in
     let known : c.is_unknown.result ≡ is_unknown k (at k s (get_or ps i 0)) = c.is_unknown.ensures ∙ ap (is_unknown k) level in
     let step : choice_key k (drop i ps) s c.loop-i.bits ≡ cond on 1 0 + 2 * choice_key k (drop (i + 1) ps) s next =
     elim c.if-is_unknown.branch [

@@ -1,6 +1,7 @@
-use Rattle.std.proofs.Common.{◌≡◌, ℕ, List, ap, ◌∙◌, arith}
+use Rattle.std.proofs.Common.{◌≡◌, ℕ, List, ap, ◌∙◌}
 use Rattle.design.specs.Views.{core}
 use Rattle.record.specs.Record.{choice_key}
+use Rattle.engine.proofs.Asked.{asked_same}
 use Rattle.successors.proofs.SuccessorLemmas.{pilots_few, pilots_within, slot_settled, successor_among}
 use Rattle.successors.proofs.steps.successor.Goals as goal
 
@@ -9,14 +10,14 @@ choice_key-key-requires g c =
     let d = core c.args.design.now in
     let sound = c.args.design.now.sound in
     record {
-      within = pilots_within d sound _ c.pilots-pilots.ensures c.args.next.now (c.if-next-places.false ∙ c.places-places.ensures);
+      within = pilots_within d sound _ c.pilots-pilots.ensures c.args.next.now (asked_same _ _ _ c.in_ok-ask-2.ensures ∙ c.places-places.ensures);
       few = pilots_few d sound _ c.pilots-pilots.ensures;
     }
 
 pub set_pilots-requires : goal.set_pilots-requires
 set_pilots-requires g c =
     pilots_within (core c.args.design.now) c.args.design.now.sound _ c.pilots-pilots.ensures c.copy_from_slice.new.self
-    (c.copy_from_slice.ensures.len ∙ c.if-slot-places.false ∙ c.places-places.ensures)
+    (c.copy_from_slice.ensures.len ∙ asked_same _ _ _ c.in_ok-ask-3.ensures ∙ c.places-places.ensures)
 
 pub returns : goal.returns
 returns g c =
@@ -31,7 +32,11 @@ returns g c =
     c.in_ok-settle.ensures.1 in
     record {
       cases = (
-        record { state_whole = omega arith; next_whole = omega arith; slot_whole = omega arith },
+        record {
+          state_whole = asked_same _ _ _ c.in_ok-ask.ensures ∙ c.places-places.ensures;
+          next_whole = asked_same _ _ _ c.in_ok-ask-2.ensures ∙ c.places-places.ensures;
+          slot_whole = asked_same _ _ _ c.in_ok-ask-3.ensures ∙ c.places-places.ensures;
+        },
         chosen,
         settles,
         c.in_ok-energy.ensures.2,

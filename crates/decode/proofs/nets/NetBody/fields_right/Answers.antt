@@ -1,26 +1,28 @@
-use Rattle.std.proofs.Common.{ℕ, Bool, sym, ◌∙◌, arith}
+use Rattle.std.proofs.Common.{◌≡◌, ℕ, Bool, ◌&&◌, eqb, List, take, drop, sym, ap, ◌∙◌, rules, tests}
+use Rattle.std.specs.List.{list_all}
+use Rattle.std.proofs.lemmas.Iterator.{YieldsList-from_slice, YieldsList-from_take}
+use Rattle.std.proofs.lemmas.Iterator.Adapters.{YieldsList-from_skip}
+use Rattle.std.proofs.lemmas.Iterator.Search.{all_from_yields_List}
 use Rattle.decode.specs.Nets.{pin_right}
-use Rattle.decode.proofs.Fields.{pin_stop, pin_more, spare_stop, spare_more, fields_all}
+use Rattle.decode.proofs.Chains.{fields_split}
 use Rattle.decode.proofs.nets.NetBody.fields_right.Goals as goal
-use Rattle.decode.proofs.nets.NetBody.fields_right.Goals.{then-k-pins, else-k-pins}
 
-pub returns-then-not-right : goal.returns-then-not-right
-returns-then-not-right c =
+pub returns-then-used : goal.returns-then-used
+returns-then-used c =
     let test : ℕ → Bool = pin_right c.args.self.now.cells.now c.args.self.now.bytes.now c.args.cell.usage c.args.i in
-    elim c.if-k-pins.branch [
-      | then-k-pins w ↦ pin_stop test c.args.cell.pins c.args.fields.now c.loop-k.k c.loop-k-test.true w.if-k-pins.true (sym (w.right-is ∙ w.pin_right-right.ensures) ∙ c.if-not-right.true) ∙ c.loop-k.invariant
-      | else-k-pins w ↦ spare_stop test c.args.cell.pins c.args.fields.now c.loop-k.k c.loop-k-test.true w.if-k-pins.false (sym w.right-is ∙ c.if-not-right.true) ∙ c.loop-k.invariant
-    ]
+    let xs : List ℕ = c.args.fields.now in
+    let n : ℕ = c.args.cell.pins in
+    let u : c.all-used.result ≡ list_all test (take n xs)
+    = all_from_yields_List test _ _ c.all-used.result c.all-used.ensures.ran (YieldsList-from_take n (YieldsList-from_slice xs cc) cc) (λ x b q k. search (rules, tests)) in
+    let s : c.all.result ≡ list_all (λ x. eqb x 0) (drop n xs)
+    = all_from_yields_List (λ x. eqb x 0) _ _ c.all.result c.all.ensures.ran (YieldsList-from_skip n (YieldsList-from_slice xs cc) cc) (λ x b q k. search (rules, tests)) in
+    s ∙ (ap (λ (b : Bool). b && list_all (λ x. eqb x 0) (drop n xs)) (sym c.if-used.true ∙ u) ∙ sym (fields_split test n xs))
 
-pub loop-k-preserved : goal.loop-k-preserved
-loop-k-preserved c =
+pub returns-else-used : goal.returns-else-used
+returns-else-used c =
     let test : ℕ → Bool = pin_right c.args.self.now.cells.now c.args.self.now.bytes.now c.args.cell.usage c.args.i in
-    elim c.if-k-pins.branch [
-      | then-k-pins w ↦ pin_more test c.args.cell.pins c.args.fields.now c.loop-k.k c.loop-k-test.true w.if-k-pins.true (sym (w.right-is ∙ w.pin_right-right.ensures) ∙ c.if-not-right.false) ∙ c.loop-k.invariant
-      | else-k-pins w ↦ spare_more test c.args.cell.pins c.args.fields.now c.loop-k.k c.loop-k-test.true w.if-k-pins.false (sym w.right-is ∙ c.if-not-right.false) ∙ c.loop-k.invariant
-    ]
-
-pub returns : goal.returns
-returns c =
-    sym (fields_all (pin_right c.args.self.now.cells.now c.args.self.now.bytes.now c.args.cell.usage c.args.i) c.args.cell.pins c.args.fields.now c.loop-k.k (omega arith))
-    ∙ c.loop-k.invariant
+    let xs : List ℕ = c.args.fields.now in
+    let n : ℕ = c.args.cell.pins in
+    let u : c.all-used.result ≡ list_all test (take n xs)
+    = all_from_yields_List test _ _ c.all-used.result c.all-used.ensures.ran (YieldsList-from_take n (YieldsList-from_slice xs cc) cc) (λ x b q k. search (rules, tests)) in
+    c.if-used.false ∙ (ap (λ (b : Bool). b && list_all (λ x. eqb x 0) (drop n xs)) (sym c.if-used.false ∙ u) ∙ sym (fields_split test n xs))

@@ -1,4 +1,4 @@
-use Rattle.std.proofs.Common.{◌≡◌, ◌+◌, ◌-◌, ◌*◌, ◌<◌, length, take, drop, sym, refl, ◌∙◌, arith, rules}
+use Rattle.std.proofs.Common.{◌≡◌, ◌+◌, ◌-◌, ◌*◌, length, take, drop, sym, refl, ◌∙◌, arith, rules}
 use Rattle.std.proofs.lemmas.List.{drop-set-lt, length-take-le, length-drop}
 use Rattle.design.specs.Views.{core}
 use Rattle.model.specs.Core.{places}
@@ -13,12 +13,12 @@ room c = start_room (core c.args.design.now) c.args.number c.args.self.now c.arg
 
 pub overflow_add-first : goal.overflow_add-first
 overflow_add-first c =
-    let h = (room c).stretch_lent in
+    let h = (room (goal.at.overflow_add-first c).In_ok-allowed).stretch_lent in
     search rules
 
 pub slice_bounds-write_start-end : goal.slice_bounds-write_start-end
 slice_bounds-write_start-end c =
-    let h = (room c).stretch_lent in
+    let h = (room (goal.at.slice_bounds-write_start-end c).In_ok-allowed).stretch_lent in
     search rules
 
 pub returns-in_err-key : goal.returns-in_err-key
@@ -36,9 +36,7 @@ pub bounds-points-point : goal.bounds-points-point
 bounds-points-point c = (room (goal.at.bounds-points-point c).In_ok-allowed).point_lent
 
 pub add_open-requires : goal.add_open-requires
-add_open-requires c =
-    let r = room (goal.at.add_open-requires c).In_ok-allowed in
-    record { few_points = r.few_points; point_inside = r.point_inside; few_open = r.few_open; open_inside = r.open_inside }
+add_open-requires c = (room (goal.at.add_open-requires c).In_ok-allowed).room
 
 pub returns : goal.returns
 returns c =
@@ -53,17 +51,17 @@ returns c =
     let none = sym c.in_ok-allowed.ensures in
     let r = room (goal.at.returns c).In_ok-allowed in
     let whole : a + x.places - a ≡ x.places = omega arith in
-    let slot : x.open_count < length x.numbers = let h = r.few_open in search rules in
     let long : length state ≡ x.places =
-    c.write_start.auto.state ∙ (length-take-le (a + x.places - a) (drop a opened) (omega (arith, length-drop a opened, r.stretch_lent)) ∙ whole) in (
+    c.write_start.auto.state ∙ (length-take-le (a + x.places - a) (drop a opened) (omega (arith, length-drop a opened, r.stretch_lent)) ∙ whole) in
+    let as_many = length_put x.places x.open_count a (a + x.places - a) opened state refl whole long r.stretch_lent in (
       none,
       refl,
       started_view d c.args.number x c.add_open.new.self points opened c.args.kept.now c.args.scratch.now c.fill.new.self state key a (a + x.places - a)
-          adds c.add_open.ensures.number r.point_lent slot refl whole long (omega (arith, r.stretch_lent)) c.in_ok-key.ensures.1 c.in_ok-key.ensures.0,
+          adds c.add_open.ensures.number r.point_lent c.add_open.ensures.slot refl whole long (omega (arith, r.stretch_lent)) c.in_ok-key.ensures.1 c.in_ok-key.ensures.0,
       record {
         lengths = adds.lengths;
         other_points = drop-set-lt c.add_open.new.self.point_count points x.point_count (start_record key) (omega (arith, adds.more_points));
-        as_many_open = length_put x.places x.open_count a (a + x.places - a) opened state refl whole long r.stretch_lent;
+        as_many_open = as_many;
         other_kept = refl;
         scratch_unknown = search rules;
       },

@@ -7,17 +7,17 @@ use Rattle.explore.proofs.exploration.Exploration.window.Goals as goal
 pub used-requires : goal.used-requires
 used-requires c =
     let x = c.args.self.now in
-    let row = length c.args.row.now in
-    let other = length c.args.other.now in
+    let row = length c.args.rows.now.row.now in
+    let other = length c.args.rows.now.other.now in
     window_held (core c.args.design.now) (memory_of x c.args.points.now c.args.opened.now c.args.kept.now c.args.scratch.now) row other c.args.width
     c.rows_fit-fits.result (c.rows_fit-fits.ensures ∙ ap (λ (b : Bool). b && leb x.point_count row && leb x.point_count other) c.fits-fits.ensures)
     c.in_default.ensures
 
-pub returns : goal.returns
-returns c =
+pub returns-clause-windows : goal.returns-clause-windows
+returns-clause-windows c =
     let x = c.args.self.now in
-    let row = length c.args.row.now in
-    let other = length c.args.other.now in (
+    let row = length c.args.rows.now.row.now in
+    let other = length c.args.rows.now.other.now in (
       ap (memory_of x c.args.points.now c.args.opened.now c.args.kept.now) (c.fill.ensures.after (λ y e. e)),
       c.window.ensures.row_cleared,
       c.window.ensures.other_cleared,

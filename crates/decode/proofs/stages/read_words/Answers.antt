@@ -1,8 +1,0 @@
-use Rattle.bundle.specs.declared.refusal.Fault.TheVariants as fault
-use Rattle.decode.specs.Words.{word_count}
-use Rattle.decode.proofs.Asking.{never_refused}
-use Rattle.decode.proofs.stages.read_words.Goals as goal
-
-pub returns-in_err-read_all : goal.returns-in_err-read_all
-returns-in_err-read_all c =
-    absurd (never_refused fault.Words 0 (word_count c.args.rom.now) _ c.in_err-read_all.ensures.refusal)

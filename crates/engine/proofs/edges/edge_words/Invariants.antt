@@ -1,6 +1,0 @@
-use Rattle.design.specs.Views.{core}
-use Rattle.engine.proofs.edges.edge_words.Given as goal
-use Rattle.engine.proofs.EdgeLemmas.{Words}
-
-abbrev pub invariant-loop-word : goal.invariant-loop-word
-invariant-loop-word g l = Words g.V.Level.kind (core l.design) l.before l.initial.after l.word l.after

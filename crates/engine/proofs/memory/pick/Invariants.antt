@@ -1,7 +1,0 @@
-use Rattle.std.proofs.Common.{map}
-use Rattle.engine.proofs.memory.pick.Given as goal
-use Rattle.model.specs.Cycle.{at}
-use Rattle.engine.proofs.MemoryLemmas.{Left}
-
-abbrev pub invariant-loop-wire : goal.invariant-loop-wire
-invariant-loop-wire g l = Left g.V.Level.kind (map (at g.V.Level.kind l.state) l.address) l.initial.leaves l.wire-index l.width l.leaves
