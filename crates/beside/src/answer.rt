@@ -1,6 +1,10 @@
 // What the library and the slow simulator answer, in one form.
-ghost use Rattle.std.specs.Prelude.{◌≡◌};
-ghost use Rattle.beside.specs.Answer.{refusal_of, answered_of};
+ghost use Rattle.std.specs.Prelude.{◌≡◌, MatchResult};
+ghost use Rattle.beside.specs.declared.answer.Answer.TheVariants.{Value, Walked, Refused};
+ghost use Rattle.beside.specs.declared.answer.Answer.TheVariants as answer;
+ghost use Rattle.beside.specs.declared.answer.Refusal.{Refusal};
+ghost use Rattle.beside.specs.declared.answer.Ending.{Ending};
+ghost use Rattle.beside.specs.Answer.{refusal_of, answered_of, library_refusal, slow_refusal, library_ending, slow_ending};
 
 use explore::Figures;
 use levels::Tri;
@@ -18,6 +22,8 @@ pub struct Refusal {
 }
 
 impl From<bundle::Refusal> for Refusal {
+    ghost from_gives = { λ refusal r. r ≡ library_refusal refusal };
+
     fn from(refusal: bundle::Refusal) -> Refusal {
         Refusal {
             number: refusal.number(),
@@ -28,10 +34,12 @@ impl From<bundle::Refusal> for Refusal {
 }
 
 impl From<slow_tag::Refusal> for Refusal {
+    ghost from_gives = { λ refusal r. r ≡ slow_refusal refusal };
+
     fn from(refusal: slow_tag::Refusal) -> Refusal {
         Refusal {
-            number: refusal.question.number(),
-            layer: refusal.question.layer(),
+            number: refusal.number,
+            layer: refusal.layer,
             place: refusal.place,
         }
     }
@@ -46,6 +54,8 @@ pub enum Ending {
 }
 
 impl From<explore::Ending> for Ending {
+    ghost from_gives = { λ ending e. e ≡ library_ending ending };
+
     fn from(ending: explore::Ending) -> Ending {
         match ending {
             explore::Ending::Spent => Ending::Spent,
@@ -56,6 +66,8 @@ impl From<explore::Ending> for Ending {
 }
 
 impl From<slow::Ending> for Ending {
+    ghost from_gives = { λ ending e. e ≡ slow_ending ending };
+
     fn from(ending: slow::Ending) -> Ending {
         match ending {
             slow::Ending::Spent => Ending::Spent,
@@ -87,18 +99,24 @@ impl Answer {
 }
 
 impl From<slow_tag::Refusal> for Answer {
+    ghost from_gives = { λ refusal a. a ≡ Refused (slow_refusal refusal) };
+
     fn from(refusal: slow_tag::Refusal) -> Answer {
         Answer::Refused(refusal.into())
     }
 }
 
 impl From<u64> for Answer {
+    ghost from_gives = { λ value a. a ≡ Value value };
+
     fn from(value: u64) -> Answer {
         Answer::Value(value)
     }
 }
 
 impl From<Figures> for Answer {
+    ghost from_gives = { λ both a. a ≡ answer.Figures both.peak both.window };
+
     fn from(figures: Figures) -> Answer {
         Answer::Figures(figures.peak, figures.window)
     }
@@ -106,6 +124,9 @@ impl From<Figures> for Answer {
 
 // What a call answers.
 impl<T: Into<Answer>, E: Into<Refusal>> From<Result<T, E>> for Answer {
+    ghost from_gives = { λ given a. MatchResult given (λ value. T.Into.converts value a)
+        (λ refusal. (r : Refusal) × E.Into.converts refusal r × (a ≡ Refused r)) };
+
     fn from(answer: Result<T, E>) -> Answer {
         match answer {
             Ok(value) => value.into(),
@@ -116,6 +137,8 @@ impl<T: Into<Answer>, E: Into<Refusal>> From<Result<T, E>> for Answer {
 
 // What a walk answers.
 impl<E: Into<Ending>> From<(usize, E)> for Answer {
+    ghost from_gives = { λ given a. (ending : Ending) × E.Into.converts given.1 ending × (a ≡ Walked given.0 ending) };
+
     fn from(answer: (usize, E)) -> Answer {
         let (count, ending) = answer;
         Answer::Walked(count, ending.into())

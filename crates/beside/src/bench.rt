@@ -74,10 +74,10 @@ impl Bench {
         exploration.walk(design, rule, budget, points, opened, kept, scratch)
     }
 
-    // Walks under one of the five rules.
-    pub fn walk(&mut self, design: &Design, rule: Rule, budget: u16) -> Answer {
+    // Walks under one of the five rules, which is given as such or by its number.
+    pub fn walk<N: Into<Rule>>(&mut self, design: &Design, rule: N, budget: u16) -> Answer {
         let eager_words = WholeWords { rule: Eager };
-        Answer::from(match rule {
+        Answer::from(match rule.into() {
             Rule::Plain => self.walk_by(design, &Plain, budget),
             Rule::Eager => self.walk_by(design, &Eager, budget),
             Rule::Words => self.walk_by(design, &WholeWords { rule: Plain }, budget),

@@ -47,12 +47,13 @@ impl Pair<'_> {
     // Do both records have the same points, in the same number?
     fn same_points(&self) -> bool {
         let count = self.bench.exploration.point_count();
-        let points = self.bench.memory.points.get(..count).unwrap_or(&[]);
-        points.len() == self.record.points.len()
-            && points
-                .iter()
-                .zip(self.record.points.iter())
-                .all(|(point, other)| point_of(point) == *other)
+        count == self.record.points.len()
+            && self.bench.memory.points.get(..count).is_some_and(|points| {
+                points
+                    .iter()
+                    .zip(self.record.points.iter())
+                    .all(|(point, other)| point_of(point) == *other)
+            })
     }
 
     // Is each kept state in its entry's stretch?
@@ -101,8 +102,14 @@ impl Pair<'_> {
         self.compare(tally)
     }
 
-    // Walks both.
-    pub fn walk(&mut self, rule: Rule, budget: u16, tally: &mut Tally) -> Result<Answer, Stop> {
+    // Walks both, under a rule that is given as such or by its number.
+    pub fn walk<N: Into<Rule>>(
+        &mut self,
+        rule: N,
+        budget: u16,
+        tally: &mut Tally,
+    ) -> Result<Answer, Stop> {
+        let rule: Rule = rule.into();
         let library = self.bench.walk(self.design, rule, budget);
         let slow = self
             .record

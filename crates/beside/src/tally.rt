@@ -88,10 +88,10 @@ pub struct Tally {
     pub addresses: usize,
     pub cuts: usize,
     pub halts: usize,
-    cases: [Count; 18],
-    rules: [usize; 5],
+    pub cases: [Count; 18],
+    pub rules: [usize; 5],
     // By the number of a refusal.
-    refusals: [usize; 23],
+    pub refusals: [usize; 23],
 }
 
 impl Tally {
@@ -163,10 +163,11 @@ impl Tally {
         self.addresses = self.addresses.saturating_add(seen.addresses);
     }
 
-    // Counts a walk under a rule.
-    pub fn ruled(&mut self, rule: Rule) {
-        let count = &mut self.rules[rule as usize];
-        *count = count.saturating_add(1);
+    // Counts a walk under a rule, which is given as such or by its number; a number that no rule has counts nowhere.
+    pub fn ruled<N: Into<usize>>(&mut self, rule: N) {
+        if let Some(count) = self.rules.get_mut(rule.into()) {
+            *count = count.saturating_add(1);
+        }
     }
 
     // Prints a line for each kind of case.

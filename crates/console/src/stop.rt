@@ -7,7 +7,7 @@ use std::alloc::AllocError;
 use std::io;
 use std::process::ExitCode;
 
-// What stops a program before it prints: what was asked is refused, or something outside failed.
+// Why a program prints nothing else: what was asked is refused, or something outside failed.
 // Why From by hand: `Failed` holds any error, and `#[from]` of thiserror makes a variant for each.
 #[derive(Drop)]
 pub enum Stop {

@@ -10,6 +10,7 @@ use bundle::{Header, Refusal};
 use design::Tables;
 
 // The tables that a bundle's header and bodies stand for.
+#[inline(always)]
 pub(crate) fn read_tables(header: Header, bodies: Bodies) -> Result<Tables, Refusal>
     ensures refusal { result_err result ≡ parts_refusal (parts_in header bodies.entry) }
     ensures tables { IfOk result (λ t. Holds t (parts_in header bodies.entry)) }

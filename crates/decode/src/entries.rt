@@ -7,6 +7,8 @@ use bundle::{Fault, Refusal};
 use design::Table;
 
 // So many entries, each read by its number, or a refusal at the first that cannot be read.
+// Why inlined, as all that hand a table on: else each table, up to 80 KB, is copied out of its `Result` at every return.
+#[inline(always)]
 pub(crate) fn read_all<T: Copy, const N: usize, F: Fn(usize) -> Option<T>>(
     blank: T,
     count: usize,

@@ -45,6 +45,7 @@ pub(crate) fn ask_figures(clock: u16, window: u16) -> Result<(), Refusal>
 }
 
 // The cells that nets are outputs of.
+#[inline(always)]
 fn read_cells(bytes: &[u8]) -> Result<Table<Cell, 64>, Refusal>
     ensures refusal { result_err result ≡ cells_refusal bytes.now }
     ensures items { IfOk result (λ t. items t ≡ cells_of bytes.now) }
@@ -55,6 +56,7 @@ fn read_cells(bytes: &[u8]) -> Result<Table<Cell, 64>, Refusal>
 }
 
 // The nets, by the cells that they are outputs of.
+#[inline(always)]
 pub(crate) fn read_nets(cells: &[u8], nets: &[u8]) -> Result<Table<Net, 4096>, Refusal>
     ensures refusal { result_err result ≡ first_refusal (cells_refusal cells.now ∷ (nets_refusal cells.now nets.now ∷ [])) }
     ensures items { IfOk result (λ t. items t ≡ nets_of cells.now nets.now) }
@@ -78,6 +80,7 @@ pub(crate) struct Memories {
     pub ram: Table<RamWord, 256>,
 }
 
+#[inline(always)]
 pub(crate) fn read_memories(rom: &[u8], ram: &[u8]) -> Result<Memories, Refusal>
     ensures refusal { result_err result ≡ words_refusal rom.now ram.now }
     ensures bits { IfOk result (λ m. (rom_bits rom.now ≡ Some m.rom_bits) × (ram_bits ram.now ≡ Some m.ram_bits)) }
@@ -100,6 +103,7 @@ pub(crate) fn read_memories(rom: &[u8], ram: &[u8]) -> Result<Memories, Refusal>
 }
 
 // The wires of memories with so many address bits, which name some of so many nets.
+#[inline(always)]
 pub(crate) fn read_wires(nets: usize, bits: usize, bytes: &[u8]) -> Result<Table<u16, 35>, Refusal>
     requires { bits + 17 ≤ 35 }
     ensures refusal { result_err result ≡ wires_refusal nets bits bytes.now }
@@ -111,6 +115,7 @@ pub(crate) fn read_wires(nets: usize, bits: usize, bytes: &[u8]) -> Result<Table
 }
 
 // The mark and the pilots.
+#[inline(always)]
 pub(crate) fn read_pilots(nets: &[Net], bytes: &[u8]) -> Result<Table<u16, 17>, Refusal>
     ensures refusal { result_err result ≡ pilots_refusal nets.now bytes.now }
     ensures items { IfOk result (λ t. items t ≡ pilots_of nets.now bytes.now) }
@@ -130,6 +135,7 @@ fn whole_starts(flops: usize, levels: usize) -> bool
 }
 
 // The starts, which have a byte for each of the flops.
+#[inline(always)]
 pub(crate) fn read_starts(
     nets: &[Net],
     pilots: &[u16],

@@ -158,7 +158,8 @@ impl Design {
     }
 }
 
-// A table of this value, so many times.
+// A table of this value, so many times. Inlined, so that it is made where it stays.
+#[inline(always)]
 fn table<T: Copy, const N: usize>(value: T, count: usize) -> Table<T, N>
     requires { count ≤ N }
     ensures { items result ≡ replicate count value }

@@ -8,5 +8,5 @@ mod run;
 mod text;
 
 pub use buffers::Buffers;
-pub use program::play_program;
+pub use program::{places_to_play, play_program};
 pub use run::{Cycle, play};

@@ -1,8 +1,8 @@
 -- What `==` and `!=` on levels answer. Assumes nothing.
 use denote.Enum.Bare.{sameb}
-use Rattle.std.proofs.Common.{◌≡◌, ℕ, zero, suc, Bool, true, false, ◌||◌, List, [], ◌∷◌, drop, refl, sym, ◌∙◌, ap, ap₂}
+use Rattle.std.proofs.Common.{◌≡◌, ℕ, zero, suc, Bool, true, false, ◌||◌, ◌&&◌, List, [], ◌∷◌, length, take, min, refl, sym, ◌∙◌, ap, ap₂, arith}
 use Rattle.std.specs.Prelude.{not, ◌≢◌}
-use Rattle.std.specs.List.{list_any, zip}
+use lib.Pointwise.{pointwise}
 use Rattle.levels.specs.declared.Tri.{Tri}
 use Rattle.levels.specs.declared.Tri.TheVariants.{Zero, One, X}
 use Rattle.levels.specs.contracts.Tri.{the_type}
@@ -20,23 +20,20 @@ equal_levels X Zero = refl
 equal_levels X One = refl
 equal_levels X X = refl
 
--- what `!=` answers of a pair
-abbrev pub pair_differs : Tri × Tri → Bool
-pair_differs p = not (sameb the_type p.0 p.1)
-
--- the pairs from number n on
-pub differ_pairs : (n : ℕ) (vs ws : List Tri) → list_any pair_differs (drop n (zip vs ws)) ≡ differ (drop n vs) (drop n ws)
-differ_pairs n [] ws = none n (drop n ws)
+-- what `!=` answers of the first n places of two states, where n is the shorter one's length
+pub differ_front : (n : ℕ) (vs ws : List Tri) → n ≡ min (length vs) (length ws) → not (pointwise (sameb the_type) (take n vs) (take n ws)) ≡ differ vs ws
+differ_front zero [] [] e = refl
+differ_front zero [] (w ∷ ws) e = refl
+differ_front (suc n) [] ws e = absurd (omega arith)
+differ_front zero (v ∷ vs) [] e = refl
+differ_front (suc n) (v ∷ vs) [] e = absurd (omega arith)
+differ_front zero (v ∷ vs) (w ∷ ws) e = absurd (omega arith)
+differ_front (suc n) (v ∷ vs) (w ∷ ws) e =
+    not_both _ _ ∙ ap₂ (λ (a b : Bool). not a || b) (equal_levels v w) (differ_front n vs ws (omega arith))
   where
-    none : (m : ℕ) (us : List Tri) → list_any pair_differs (drop m []) ≡ differ (drop m []) us
-    none zero [] = refl
-    none zero (u ∷ us) = refl
-    none (suc m) [] = refl
-    none (suc m) (u ∷ us) = refl
-differ_pairs zero (v ∷ vs) [] = refl
-differ_pairs zero (v ∷ vs) (w ∷ ws) = ap₂ (λ (a b : Bool). not a || b) (equal_levels v w) (differ_pairs zero vs ws)
-differ_pairs (suc n) (v ∷ vs) [] = refl
-differ_pairs (suc n) (v ∷ vs) (w ∷ ws) = differ_pairs n vs ws
+    not_both : (a b : Bool) → not (a && b) ≡ (not a || not b)
+    not_both true b = refl
+    not_both false b = refl
 
 pub told_same : (v w : Tri) → sameb the_type v w ≡ true → v ≡ w
 told_same v w e = (level_decides v w).0 (sym (equal_levels v w) ∙ e)

@@ -33,10 +33,8 @@ impl Rule for Eager {
 fn differs_from(kept: &[Tri], state: &[Tri], first: usize) -> bool
     ensures { result ≡ differ (drop first kept.now) (drop first state.now) }
 {
-    kept.iter()
-        .zip(state)
-        .skip(first)
-        .any(|(kept, new)| kept != new)
+    let places = kept.len().min(state.len());
+    first < places && kept[first..places] != state[first..places]
 }
 
 // The places from `first` on become X.

@@ -55,12 +55,17 @@ fn bit_after(tag: &Tag, state: &[bool], place: usize, net: &Net, inputs: &mut It
     }
 }
 
-// The bit of a RAM word after the edge.
-fn ram_bit_after(tag: &Tag, state: &[bool], word: usize, place: usize) -> bool {
-    let written = get(state, tag.enable) && word == number(state, &tag.ram_address);
+// The bit of a RAM word after the edge, of which `written` is the word that the edge writes, if it writes one.
+fn ram_bit_after(
+    tag: &Tag,
+    state: &[bool],
+    written: Option<usize>,
+    word: usize,
+    place: usize,
+) -> bool {
     get(
         state,
-        if written {
+        if written == Some(word) {
             tag.written.get(place).copied().unwrap_or(0)
         } else {
             tag.ram_place(word, place)
@@ -81,9 +86,11 @@ pub fn cycle(
     for (place, net) in tag.nets.iter().enumerate() {
         next.push(bit_after(tag, state, place, net, &mut inputs))?;
     }
+    let address = number(state, &tag.ram_address);
+    let written = get(state, tag.enable).then_some(address);
     let words = 0..tag.ram.len();
     next.extend(words.flat_map(|word| {
-        (0..16).map(move |place| ram_bit_after(tag, state, word, place))
+        (0..16).map(move |place| ram_bit_after(tag, state, written, word, place))
     }))?;
     settle_bits(tag, &mut next);
     Ok(next)

@@ -11,12 +11,18 @@ use Rattle.slow_tag.specs.Uses.{holds_a_bit, constant_of}
 abbrev pub flops_in : List Net → ℕ
 flops_in nets = count_by (λ (net : Net). holds_a_bit net.cell.duty) nets
 
+-- the bit of a start's flop, counted in net order
+abbrev pub start_bit : Tag → ℕ → ℕ → Option Bool
+start_bit tag start flop = option_flatten (slice_get tag.starts.items (start * tag.flops + flop))
+
+-- what is known of a net that so many flops come before
+abbrev pub flop_or_constant : Tag → ℕ → ℕ → Net → Option Bool
+flop_or_constant tag start flops net =
+    if holds_a_bit net.cell.duty then start_bit tag start flops else constant_of net.cell.duty
+
 -- a flop has the start's bit after those of the flops before it
 abbrev pub net_bit : Tag → ℕ → ℕ → Net → Option Bool
-net_bit tag start number net =
-    if holds_a_bit net.cell.duty
-    then option_flatten (slice_get tag.starts.items (start * tag.flops + flops_in (take number tag.nets.items)))
-    else constant_of net.cell.duty
+net_bit tag start number net = flop_or_constant tag start (flops_in (take number tag.nets.items)) net
 
 abbrev pub is_bit_set : ℕ → ℕ → Bool
 is_bit_set number place = nat_lt place 64 && (number / 2 ^ place % 2 == 1)

@@ -1,5 +1,5 @@
--- Each question's number and layer. Assumes nothing.
-use Rattle.std.specs.Prelude.{ℕ}
+-- Each question's number, and each number's layer. Assumes nothing.
+use Rattle.std.specs.Prelude.{ℕ, nat_le, if◌then◌else◌}
 use Rattle.slow_tag.specs.declared.refusal.Question.{Question}
 use Rattle.slow_tag.specs.declared.refusal.Question.TheVariants as question
 
@@ -28,26 +28,5 @@ number_of question.Names = 21
 number_of question.Lines = 22
 
 -- 1 is the bundle, 2 the design, 3 the calls
-abbrev pub layer_of : Question → ℕ
-layer_of question.Header = 1
-layer_of question.Length = 1
-layer_of question.Rows = 1
-layer_of question.Kinds = 1
-layer_of question.Bodies = 1
-layer_of question.Clock = 2
-layer_of question.Cells = 2
-layer_of question.Nets = 2
-layer_of question.Words = 2
-layer_of question.Wires = 2
-layer_of question.Pilots = 2
-layer_of question.Starts = 2
-layer_of question.Memory = 3
-layer_of question.StartNumber = 3
-layer_of question.EntryRoom = 3
-layer_of question.PointRoom = 3
-layer_of question.OpenRoom = 3
-layer_of question.Started = 3
-layer_of question.NoneOpen = 3
-layer_of question.Width = 3
-layer_of question.Names = 3
-layer_of question.Lines = 3
+abbrev pub layer_of : ℕ → ℕ
+layer_of number = if nat_le number 5 then 1 else (if nat_le number 12 then 2 else 3)

@@ -1,6 +1,8 @@
 // A tag in plain tables.
 ghost use Rattle.std.specs.Prelude.{◌≡◌, true, false, min, take, IfOk};
-ghost use Rattle.slow_tag.specs.Known.{flops_in, net_bit, ram_bit, known_of};
+ghost use Rattle.std.specs.Option.{option_and_then};
+ghost use Rattle.std.specs.List.{slice_get};
+ghost use Rattle.slow_tag.specs.Known.{start_bit, flop_or_constant, ram_bit, known_of};
 ghost use Rattle.slow_tag.specs.Uses.{holds_a_bit, constant_of};
 
 use crate::fields::bit;
@@ -153,22 +155,28 @@ impl Tag {
         inputs.count()
     }
 
-    // How many flops come before a net.
-    fn flops_before(&self, number: usize) -> usize
-        ensures { result ≡ flops_in (take number self.now.nets.items) }
+    // A RAM bit as the bundle has it; none if it is unknown.
+    pub fn ram_bit(&self, word: usize, place: usize) -> Option<bool>
+        ensures { result ≡ option_and_then (λ w. ram_bit w place) (slice_get self.now.ram.items word) }
     {
-        let before = self.nets.iter().take(number);
-        before.filter(|net| net.is_flop()).count()
+        self.ram.get(word).and_then(|word| word.bit(place))
     }
 
-    // The bit of a net at a start, none where it is unknown.
-    fn net_bit(&self, start: usize, number: usize, net: &Net) -> Option<bool>
-        ensures { result ≡ net_bit self.now start number net.now }
+    // The bit of a start's flop, counted in net order; none if it is unknown.
+    pub fn start_bit(&self, start: usize, flop: usize) -> Option<bool>
+        ensures { result ≡ start_bit self.now start flop }
+    {
+        let first = start.saturating_mul(self.flops);
+        let place = first.saturating_add(flop);
+        self.starts.get(place).copied().flatten()
+    }
+
+    // The bit of a net at a start, none where it is unknown. So many flops come before the net.
+    fn net_bit(&self, start: usize, flops: usize, net: &Net) -> Option<bool>
+        ensures { result ≡ flop_or_constant self.now start flops net.now }
     {
         if net.is_flop() {
-            let first = start.saturating_mul(self.flops);
-            let place = first.saturating_add(self.flops_before(number));
-            self.starts.get(place).copied().flatten()
+            self.start_bit(start, flops)
         } else {
             net.constant()
         }
@@ -178,9 +186,14 @@ impl Tag {
     pub fn known_bits(&self, start: usize, heap: Global) -> Result<Vec<Option<bool>>, AllocError>
         ensures { IfOk result (λ known. known.items ≡ known_of self.now start) }
     {
-        let nets = self.nets.iter().enumerate();
         let words = self.ram.iter();
-        nets.map(|(number, net)| self.net_bit(start, number, net))
+        self.nets
+            .iter()
+            .scan(0usize, |flops, net| {
+                let bit = self.net_bit(start, *flops, net);
+                *flops = flops.saturating_add(net.is_flop() as usize);
+                Some(bit)
+            })
             .chain(words.flat_map(|word| (0..16).map(move |place| word.bit(place))))
             .collect(heap)
     }

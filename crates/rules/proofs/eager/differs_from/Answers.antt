@@ -1,17 +1,19 @@
-use Rattle.std.proofs.Common.{◌∙◌, rules, tests}
-use Rattle.std.proofs.lemmas.Iterator.{YieldsList-from_slice, YieldsList-from_zip}
-use Rattle.std.proofs.lemmas.Iterator.Adapters.{YieldsList-from_skip}
-use Rattle.std.proofs.lemmas.Iterator.Consumers.{YieldsList-at}
-use Rattle.std.proofs.lemmas.Iterator.Search.{any_from_yields_List}
-use Rattle.rules.proofs.Levels.{pair_differs, differ_pairs}
+use Rattle.std.proofs.Common.{drop, length-drop, le-ltb, ◌-◌, ◌∙◌, arith}
+use Rattle.rules.proofs.Levels.{differ_front}
 use Rattle.rules.proofs.eager.differs_from.Goals as goal
 
-pub returns : goal.returns
-returns c =
+pub returns-then-first-places : goal.returns-then-first-places
+returns-then-first-places c =
+    let first = c.args.first in
     let kept = c.args.kept.now in
     let state = c.args.state.now in
-    any_from_yields_List pair_differs c.any.new.self _ _ c.any.ensures.ran
-    (YieldsList-from_skip c.args.first (YieldsList-at c.skip.ensures.source
-    (YieldsList-from_zip (YieldsList-at c.zip.ensures.first (YieldsList-from_slice kept cc)) (YieldsList-from_slice state cc))) cc)
-    (λ x b q k. search (rules, tests))
-    ∙ differ_pairs c.args.first kept state
+    c.ne.ensures
+    ∙ differ_front (c.min-places.result - first) (drop first kept) (drop first state) (omega (arith, length-drop first kept, length-drop first state))
+
+pub returns-else-first-places : goal.returns-else-first-places
+returns-else-first-places c =
+    let first = c.args.first in
+    let kept = c.args.kept.now in
+    let state = c.args.state.now in
+    le-ltb _ _ c.if-first-places.false
+    ∙ differ_front 0 (drop first kept) (drop first state) (omega (arith, length-drop first kept, length-drop first state))
