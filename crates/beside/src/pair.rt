@@ -103,19 +103,20 @@ impl Pair<'_> {
     }
 
     // Walks both, under a rule that is given as such or by its number.
-    pub fn walk<N: Into<Rule>>(
+    pub fn walk<N: Into<usize>>(
         &mut self,
         rule: N,
         budget: u16,
         tally: &mut Tally,
     ) -> Result<Answer, Stop> {
-        let rule: Rule = rule.into();
+        let number: usize = rule.into();
+        let rule = Rule::from(number);
         let library = self.bench.walk(self.design, rule, budget);
         let slow = self
             .record
             .walk(self.tag, rule.into(), budget as usize, self.heap)?;
         tally.note(library);
-        tally.ruled(rule);
+        tally.ruled(number);
         if let Answer::Walked(count, ending) = library {
             tally.taken = tally.taken.saturating_add(count);
             self.refused = matches!(ending, Ending::Refused(_));
