@@ -9,36 +9,31 @@ use crate::stages::{ask_figures, read_memories, read_nets, read_pilots, read_sta
 use bundle::{Header, Refusal};
 use design::Tables;
 
-// The tables that a bundle's header and bodies stand for.
-#[inline(always)]
-pub(crate) fn read_tables(header: Header, bodies: Bodies) -> Result<Tables, Refusal>
+// Reads what a bundle's header and bodies stand for into the tables, or refuses: what they then hold is not said.
+// Why into lent tables: each, up to 80 KB, would be copied out of its `Result` at every return.
+pub(crate) fn read_tables(
+    tables: &mut Tables,
+    header: Header,
+    bodies: Bodies,
+) -> Result<(), Refusal>
     ensures refusal { result_err result ≡ parts_refusal (parts_in header bodies.entry) }
-    ensures tables { IfOk result (λ t. Holds t (parts_in header bodies.entry)) }
+    ensures tables { IfOk result (λ _. Holds tables.new (parts_in header bodies.entry)) }
 {
     ask_figures(header.clock, header.window)?;
-    let nets = read_nets(bodies.cells, bodies.nets)?;
-    let memories = read_memories(bodies.rom, bodies.ram)?;
-    let bits = memories.rom_bits + memories.ram_bits;
-    let wires = read_wires(bodies.nets.len() / 10, bits, bodies.wires)?;
-    let known = nets.as_slice();
-    let pilots = read_pilots(known, bodies.pilots)?;
-    let past = &pilots.as_slice()[1..];
-    let starts = read_starts(known, past, bodies.starts)?;
-    let flop_count = count_flops(known);
-    Ok(Tables {
-        clock: header.clock,
-        window: header.window,
-        rom_energy: header.rom_energy,
-        ram_energy: header.ram_energy,
-        write_energy: header.write_energy,
-        nets,
-        rom_bits: memories.rom_bits,
-        rom: memories.rom,
-        ram_bits: memories.ram_bits,
-        ram: memories.ram,
-        wires,
-        pilots,
-        flop_count,
-        starts,
-    })
+    tables.clock = header.clock;
+    tables.window = header.window;
+    tables.rom_energy = header.rom_energy;
+    tables.ram_energy = header.ram_energy;
+    tables.write_energy = header.write_energy;
+    read_nets(&mut tables.nets, bodies.cells, bodies.nets)?;
+    let bits = read_memories(&mut tables.rom, &mut tables.ram, bodies.rom, bodies.ram)?;
+    tables.rom_bits = bits.rom;
+    tables.ram_bits = bits.ram;
+    let count = bodies.nets.len() / 10;
+    read_wires(&mut tables.wires, count, bits.rom + bits.ram, bodies.wires)?;
+    let nets = tables.nets.as_slice();
+    tables.flop_count = count_flops(nets);
+    read_pilots(&mut tables.pilots, nets, bodies.pilots)?;
+    let past = &tables.pilots.as_slice()[1..];
+    read_starts(&mut tables.starts, nets, past, bodies.starts)
 }

@@ -6,23 +6,22 @@ ghost use Rattle.decode.specs.Entries.{Reads, first_unread, entries};
 use bundle::{Fault, Refusal};
 use design::Table;
 
-// So many entries, each read by its number, or a refusal at the first that cannot be read.
-// Why inlined, as all that hand a table on: else each table, up to 80 KB, is copied out of its `Result` at every return.
-#[inline(always)]
+// Fills the table with so many entries, each read by its number, or refuses at the first that cannot be read: what the table then
+// holds is not said.
 pub(crate) fn read_all<T: Copy, const N: usize, F: Fn(usize) -> Option<T>>(
-    blank: T,
+    table: &mut Table<T, N>,
     count: usize,
     fault: Fault,
     read: F,
-) -> Result<Table<T, N>, Refusal>
+) -> Result<(), Refusal>
     requires room { count ≤ N }
     requires readable { (i : ℕ) → i < count → F.pre read i }
     ensures refusal { (reads : ℕ → Option T) → Reads F.post read reads count → result_err result ≡ first_unread reads fault count }
-    ensures items { (reads : ℕ → Option T) → Reads F.post read reads count → IfOk result (λ t. items t ≡ entries reads blank count) }
+    ensures items { (reads : ℕ → Option T) (d : T) → Reads F.post read reads count → IfOk result (λ _. items table.new ≡ entries reads d count) }
 {
-    let mut values = [blank; N];
-    for (i, value) in values[..count].iter_mut().enumerate() {
+    for (i, value) in table.values[..count].iter_mut().enumerate() {
         *value = read(i).ok_or(Refusal { fault, place: i })?;
     }
-    Ok(Table { values, count })
+    table.count = count;
+    Ok(())
 }

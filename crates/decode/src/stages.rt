@@ -13,7 +13,7 @@ use crate::words::{address_bits, ram_word, wire, word};
 use bundle::{Fault, Refusal, ask};
 use design::Table;
 use levels::Tri;
-use model::{Driver, Net, RamWord};
+use model::{Net, RamWord};
 
 // What stands for an entry that is not read yet.
 const NO_CELL: Cell = Cell {
@@ -25,18 +25,6 @@ const NO_CELL: Cell = Cell {
     idle: 0,
 };
 
-const NO_NET: Net = Net {
-    driver: Driver::Constant { bit: false },
-    rise: 0,
-    fall: 0,
-    idle: 0,
-};
-
-const NO_WORD: RamWord = RamWord {
-    value: 0,
-    unknown: 0,
-};
-
 // Asks whether the clock and the window are in range.
 pub(crate) fn ask_figures(clock: u16, window: u16) -> Result<(), Refusal>
     ensures { result_err result ≡ figures_refusal clock window }
@@ -45,46 +33,55 @@ pub(crate) fn ask_figures(clock: u16, window: u16) -> Result<(), Refusal>
 }
 
 // The cells that nets are outputs of.
-#[inline(always)]
-fn read_cells(bytes: &[u8]) -> Result<Table<Cell, 64>, Refusal>
+fn read_cells(table: &mut Table<Cell, 64>, bytes: &[u8]) -> Result<(), Refusal>
     ensures refusal { result_err result ≡ cells_refusal bytes.now }
-    ensures items { IfOk result (λ t. items t ≡ cells_of bytes.now) }
+    ensures items { IfOk result (λ _. items table.new ≡ cells_of bytes.now) }
 {
     let count = bytes.len() / 10;
     ask(1 <= count && count <= 64, Fault::Cells)?;
-    read_all(NO_CELL, count, Fault::Cells, |i| read_cell(bytes, i))
+    read_all(table, count, Fault::Cells, |i| read_cell(bytes, i))
 }
 
 // The nets, by the cells that they are outputs of.
-#[inline(always)]
-pub(crate) fn read_nets(cells: &[u8], nets: &[u8]) -> Result<Table<Net, 4096>, Refusal>
+pub(crate) fn read_nets(
+    table: &mut Table<Net, 4096>,
+    cells: &[u8],
+    nets: &[u8],
+) -> Result<(), Refusal>
     ensures refusal { result_err result ≡ first_refusal (cells_refusal cells.now ∷ (nets_refusal cells.now nets.now ∷ [])) }
-    ensures items { IfOk result (λ t. items t ≡ nets_of cells.now nets.now) }
+    ensures items { IfOk result (λ _. items table.new ≡ nets_of cells.now nets.now) }
 {
-    let cells = read_cells(cells)?;
+    let mut known = Table {
+        values: [NO_CELL; 64],
+        count: 0,
+    };
+    read_cells(&mut known, cells)?;
     let count = nets.len() / 10;
     ask(1 <= count && count <= 4096, Fault::Nets)?;
     let body = NetBody {
-        cells: cells.as_slice(),
+        cells: known.as_slice(),
         bytes: nets,
     };
-    read_all(NO_NET, count, Fault::Nets, |i| body.read(i))
+    read_all(table, count, Fault::Nets, |i| body.read(i))
 }
 
-// Both memories, and how many address bits each has.
+// How many address bits each of the memories has.
 #[derive(Clone, Copy)]
-pub(crate) struct Memories {
-    pub rom_bits: usize,
-    pub rom: Table<u16, 1024>,
-    pub ram_bits: usize,
-    pub ram: Table<RamWord, 256>,
+pub(crate) struct AddressBits {
+    pub rom: usize,
+    pub ram: usize,
 }
 
-#[inline(always)]
-pub(crate) fn read_memories(rom: &[u8], ram: &[u8]) -> Result<Memories, Refusal>
+// The words of both memories, and how many address bits they have.
+pub(crate) fn read_memories(
+    rom_table: &mut Table<u16, 1024>,
+    ram_table: &mut Table<RamWord, 256>,
+    rom: &[u8],
+    ram: &[u8],
+) -> Result<AddressBits, Refusal>
     ensures refusal { result_err result ≡ words_refusal rom.now ram.now }
-    ensures bits { IfOk result (λ m. (rom_bits rom.now ≡ Some m.rom_bits) × (ram_bits ram.now ≡ Some m.ram_bits)) }
-    ensures items { IfOk result (λ m. (items m.rom ≡ rom_of rom.now) × (items m.ram ≡ ram_of ram.now)) }
+    ensures bits { IfOk result (λ bits. (rom_bits rom.now ≡ Some bits.rom) × (ram_bits ram.now ≡ Some bits.ram)) }
+    ensures items { IfOk result (λ _. (items rom_table.new ≡ rom_of rom.now) × (items ram_table.new ≡ ram_of ram.now)) }
 {
     let refusal = Refusal {
         fault: Fault::Words,
@@ -92,38 +89,48 @@ pub(crate) fn read_memories(rom: &[u8], ram: &[u8]) -> Result<Memories, Refusal>
     };
     let rom_bits = address_bits(rom.len() / 2, 10).ok_or(refusal)?;
     let ram_bits = address_bits(ram.len() / 4, 8).ok_or(refusal)?;
-    let rom = read_all(0, rom.len() / 2, Fault::Words, |i| Some(word(rom, i)))?;
-    let ram = read_all(NO_WORD, ram.len() / 4, Fault::Words, |i| ram_word(ram, i))?;
-    Ok(Memories {
-        rom_bits,
-        rom,
-        ram_bits,
-        ram,
+    read_all(
+        rom_table,
+        rom.len() / 2,
+        Fault::Words,
+        |i| Some(word(rom, i)),
+    )?;
+    read_all(ram_table, ram.len() / 4, Fault::Words, |i| ram_word(ram, i))?;
+    Ok(AddressBits {
+        rom: rom_bits,
+        ram: ram_bits,
     })
 }
 
 // The wires of memories with so many address bits, which name some of so many nets.
-#[inline(always)]
-pub(crate) fn read_wires(nets: usize, bits: usize, bytes: &[u8]) -> Result<Table<u16, 35>, Refusal>
+pub(crate) fn read_wires(
+    table: &mut Table<u16, 35>,
+    nets: usize,
+    bits: usize,
+    bytes: &[u8],
+) -> Result<(), Refusal>
     requires { bits + 17 ≤ 35 }
     ensures refusal { result_err result ≡ wires_refusal nets bits bytes.now }
-    ensures items { IfOk result (λ t. items t ≡ wires_of nets bytes.now) }
+    ensures items { IfOk result (λ _. items table.new ≡ wires_of nets bytes.now) }
 {
     let count = bytes.len() / 2;
     ask(bits + 17 <= count && count <= bits + 17, Fault::Wires)?;
-    read_all(0, count, Fault::Wires, |i| wire(nets, bytes, i))
+    read_all(table, count, Fault::Wires, |i| wire(nets, bytes, i))
 }
 
 // The mark and the pilots.
-#[inline(always)]
-pub(crate) fn read_pilots(nets: &[Net], bytes: &[u8]) -> Result<Table<u16, 17>, Refusal>
+pub(crate) fn read_pilots(
+    table: &mut Table<u16, 17>,
+    nets: &[Net],
+    bytes: &[u8],
+) -> Result<(), Refusal>
     ensures refusal { result_err result ≡ pilots_refusal nets.now bytes.now }
-    ensures items { IfOk result (λ t. items t ≡ pilots_of nets.now bytes.now) }
-    ensures mark { IfOk result (λ t. 0 < length (items t)) }
+    ensures items { IfOk result (λ _. items table.new ≡ pilots_of nets.now bytes.now) }
+    ensures mark { IfOk result (λ _. 0 < length (items table.new)) }
 {
     let count = bytes.len() / 2;
     ask(2 <= count && count <= 17, Fault::Pilots)?;
-    read_all(0, count, Fault::Pilots, |i| pilot(nets, bytes, i))
+    read_all(table, count, Fault::Pilots, |i| pilot(nets, bytes, i))
 }
 
 // Whether so many levels are one to eight whole starts.
@@ -135,17 +142,17 @@ fn whole_starts(flops: usize, levels: usize) -> bool
 }
 
 // The starts, which have a byte for each of the flops.
-#[inline(always)]
 pub(crate) fn read_starts(
+    table: &mut Table<Tri, 32768>,
     nets: &[Net],
     pilots: &[u16],
     bytes: &[u8],
-) -> Result<Table<Tri, 32768>, Refusal>
+) -> Result<(), Refusal>
     requires few_nets { length nets.now ≤ 4096 }
     requires few_pilots { length pilots.now ≤ 16 }
     requires named { (k : ℕ) → k < length pilots.now → slice_index pilots.now k < length nets.now }
     ensures refusal { result_err result ≡ starts_refusal nets.now pilots.now bytes.now }
-    ensures items { IfOk result (λ t. items t ≡ starts_of nets.now pilots.now bytes.now) }
+    ensures items { IfOk result (λ _. items table.new ≡ starts_of nets.now pilots.now bytes.now) }
 {
     let flops = count_flops(nets);
     let count = bytes.len();
@@ -153,7 +160,7 @@ pub(crate) fn read_starts(
     let places = flop_places(nets, pilots);
     let places = places.as_slice();
     read_all(
-        Tri::X,
+        table,
         count,
         Fault::Starts,
         |i| start(flops, places, bytes, i),

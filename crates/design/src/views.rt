@@ -1,6 +1,5 @@
-ghost use Rattle.std.specs.Prelude.{◌≡◌, ◌/◌, ◌≤◌, length, replicate};
+ghost use Rattle.std.specs.Prelude.{◌≡◌, ◌/◌, length};
 ghost use Rattle.model.specs.Core.{places, flops};
-ghost use Rattle.design.specs.Table.{items};
 ghost use Rattle.design.specs.Views.{core, smallest};
 
 use crate::design::Design;
@@ -30,15 +29,35 @@ impl Design {
             rom_energy: 0,
             ram_energy: 0,
             write_energy: 0,
-            nets: table(halt, 1),
+            nets: Table {
+                values: [halt; 4096],
+                count: 1,
+            },
             rom_bits: 0,
-            rom: table(0, 1),
+            rom: Table {
+                values: [0; 1024],
+                count: 1,
+            },
             ram_bits: 0,
-            ram: table(word, 1),
-            wires: table(0, 17),
-            pilots: table(0, 2),
+            ram: Table {
+                values: [word; 256],
+                count: 1,
+            },
+            // 16 data nets and the write enable, no address net
+            wires: Table {
+                values: [0; 35],
+                count: 17,
+            },
+            // the mark and one pilot
+            pilots: Table {
+                values: [0; 17],
+                count: 2,
+            },
             flop_count: 1,
-            starts: table(Tri::Zero, 1),
+            starts: Table {
+                values: [Tri::Zero; 32768],
+                count: 1,
+            },
         };
         Design { tables }
     }
@@ -155,17 +174,5 @@ impl Design {
         ensures { result ≡ places (core self.now) }
     {
         self.nets().len() + 16 * self.ram().len()
-    }
-}
-
-// A table of this value, so many times. Inlined, so that it is made where it stays.
-#[inline(always)]
-fn table<T: Copy, const N: usize>(value: T, count: usize) -> Table<T, N>
-    requires { count ≤ N }
-    ensures { items result ≡ replicate count value }
-{
-    Table {
-        values: [value; N],
-        count,
     }
 }

@@ -34,11 +34,8 @@ impl<R: Rule> Rule for WholeWords<R> {
 fn make_whole(state: &mut [Tri], nets: usize)
     ensures { state.new ≡ whole_words nets state.old }
 {
-    // Why by index: after `chunks_mut(WORD)` a proof knows how long the state is, and nothing of what was written. A range by
-    // `step_by(WORD)` costs sixteen steps a word.
-    let words = state.len().saturating_sub(nets).div_ceil(WORD);
-    for word in 0..words {
-        let first = nets + WORD * word;
+    // Why by index: after `chunks_mut(WORD)` a proof knows how long the state is, and nothing of what was written.
+    for first in (nets..state.len()).step_by(WORD) {
         let end = first + WORD.min(state.len() - first);
         make_word_whole(&mut state[first..end]);
     }

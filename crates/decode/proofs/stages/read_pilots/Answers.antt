@@ -18,4 +18,4 @@ returns-clause-mark c =
       | then-count-ge2 w ↦ omega arith
       | else-count-ge2 w ↦ leb-true 2 n (sym w.ask-is ∙ y)
     ] in
-    IfOk-weaker c.read_all.result _ _ (λ t e. omega (arith, ap (λ (xs : List ℕ). length xs) e, length_entries reads n 0)) (c.read_all.ensures.items reads (record { each = λ i l o q. search (rules, tests) }))
+    IfOk-weaker c.read_all.result _ _ (λ t e. omega (arith, ap (λ (xs : List ℕ). length xs) e, length_entries reads n 0)) (c.read_all.ensures.items reads 0 (record { each = λ i l o q. search (rules, tests) }))
