@@ -63,7 +63,8 @@ pub struct Parts {
 
 // A field of so many bytes, the lowest first.
 fn push_field(bytes: &mut Vec<u8>, value: usize, size: usize) -> Result<(), AllocError> {
-    bytes.extend(value.to_le_bytes().iter().take(size).copied())
+    let field = value.to_le_bytes();
+    bytes.extend_from_slice(&field[..size.min(8)])
 }
 
 // A field of two bytes, the lower first.

@@ -6,9 +6,9 @@ use slow_tag::{Cell, Tag};
 // The most over all bits that a net may have before and after.
 fn most(cell: &Cell, before: Level, after: Level) -> u32 {
     [(false, false), (false, true), (true, false), (true, true)]
-        .into_iter()
+        .iter()
         .filter(|(from, to)| before.allows(*from) && after.allows(*to))
-        .map(|(from, to)| cell.toggle(from, to))
+        .map(|(from, to)| cell.toggle(*from, *to))
         .max()
         .unwrap_or(0)
 }

@@ -27,11 +27,11 @@ fn written(tag: &Tag, state: &State, word: usize) -> Level {
     })
 }
 
-// A bit of a RAM word after the edge.
-fn ram_after(tag: &Tag, state: &State, word: usize, place: usize) -> Level {
+// A bit of a RAM word after the edge, by whether the word is written.
+fn ram_after(tag: &Tag, state: &State, written: Level, word: usize, place: usize) -> Level {
     let offered = state.at(tag.written.get(place).copied().unwrap_or(0));
     let held = state.at(tag.ram_place(word, place));
-    written(tag, state, word).choose(offered, held)
+    written.choose(offered, held)
 }
 
 // A net after the edge; a gate is still as it was, and settles later.
@@ -52,10 +52,12 @@ fn net_after(tag: &Tag, state: &State, number: usize, net: &Net) -> Level {
 // The state after the edge, gates not settled.
 pub(crate) fn edge(tag: &Tag, state: &State, heap: Global) -> Result<State, AllocError> {
     let nets = tag.nets.iter().enumerate();
-    let words = 0..tag.ram.len();
-    let levels = nets
+    let mut levels: Vec<Level> = nets
         .map(|(number, net)| net_after(tag, state, number, net))
-        .chain(words.flat_map(|word| (0..16).map(move |place| ram_after(tag, state, word, place))))
         .collect(heap)?;
+    for word in 0..tag.ram.len() {
+        let written = written(tag, state, word);
+        levels.extend((0..16).map(|place| ram_after(tag, state, written, word, place)))?;
+    }
     Ok(State { levels })
 }

@@ -88,10 +88,9 @@ pub fn cycle(
     }
     let address = number(state, &tag.ram_address);
     let written = get(state, tag.enable).then_some(address);
-    let words = 0..tag.ram.len();
-    next.extend(words.flat_map(|word| {
-        (0..16).map(move |place| ram_bit_after(tag, state, written, word, place))
-    }))?;
+    for word in 0..tag.ram.len() {
+        next.extend((0..16).map(|place| ram_bit_after(tag, state, written, word, place)))?;
+    }
     settle_bits(tag, &mut next);
     Ok(next)
 }

@@ -186,15 +186,18 @@ impl Tag {
     pub fn known_bits(&self, start: usize, heap: Global) -> Result<Vec<Option<bool>>, AllocError>
         ensures { IfOk result (λ known. known.items ≡ known_of self.now start) }
     {
-        let words = self.ram.iter();
-        self.nets
+        let mut known: Vec<Option<bool>> = self
+            .nets
             .iter()
             .scan(0usize, |flops, net| {
                 let bit = self.net_bit(start, *flops, net);
                 *flops = flops.saturating_add(net.is_flop() as usize);
                 Some(bit)
             })
-            .chain(words.flat_map(|word| (0..16).map(move |place| word.bit(place))))
-            .collect(heap)
+            .collect(heap)?;
+        for word in &self.ram {
+            known.extend((0..16).map(|place| word.bit(place)))?;
+        }
+        Ok(known)
     }
 }
