@@ -1,7 +1,7 @@
 -- A question put to each entry in turn, as a loop puts it.
-use Rattle.std.proofs.Common.{◌≡◌, ℕ, zero, suc, ◌+◌, ◌-◌, ◌<◌, ◌≤◌, Bool, true, false, cond, ◌≢◌, List, ◌++◌, length, get_or, take, replicate, set, is_some, Some, None, Option, unwrap_or, sym, refl, ap, ◌∙◌, arith, below_more}
+use Rattle.std.proofs.Common.{◌≡◌, ℕ, zero, suc, ◌+◌, ◌-◌, ◌<◌, ◌≤◌, Bool, true, false, cond, ◌≢◌, List, ◌++◌, length, get_or, take, set, is_some, Some, None, Option, unwrap_or, sym, refl, ap, ◌∙◌, arith, below_more}
 use Rattle.std.proofs.lemmas.List.FromFn.{fill_by_all, get_or-map-range_with_len, length-map-range_with_len}
-use Rattle.std.proofs.lemmas.List.{take-append-le, get_or-take, length-take-le, length-replicate, get_or-set_same, get_or-set_other}
+use Rattle.std.proofs.lemmas.List.{take-append-le, get_or-take, length-take-le, get_or-set_same, get_or-set_other}
 use Rattle.bundle.specs.declared.refusal.Fault.{Fault}
 use Rattle.bundle.specs.declared.refusal.Refusal.{Refusal}
 use Rattle.bundle.specs.Format.{ask_each, refused_at}
@@ -40,10 +40,6 @@ all_pass f i (suc n) = all_pass f (i + 1) n
 
 pub never_refused : (f : Fault) (i n : ℕ) (r : Refusal) → Some r ≡ ask_each (λ (k : ℕ). true) f i n → ⊥
 never_refused f i n r e = let p = all_pass f i n in let z : ◌≡◌ {A = ℕ} 0 1 = cc in omega arith
-
--- the front of a table that is still blank
-pub room_long : {A : Type 0} (n m : ℕ) (x : A) → n ≤ m → length (take n (replicate m x)) ≡ n
-room_long n m x h = length-take-le n (replicate m x) (omega (arith, length-replicate m x))
 
 -- Entries read into a table, those below i so far.
 module _ {A : Type 0} (read : ℕ → Option A) (f : Fault) (n : ℕ) where

@@ -53,6 +53,7 @@ pub fn read_design(design: &mut Design, bytes: &[u8]) -> Result<(), Refusal>
     ensures tables { MatchResult result (λ _. core design.new ≡ decoded bytes.now) (λ _. design.new ≡ design.old) }
 {
     let bundle = Bundle::open(bytes)?;
+    // Read into a copy, since a refusal leaves the design as it was.
     let mut tables = design.tables;
     read_tables(&mut tables, bundle.header(), bodies(&bundle))?;
     *design = Design { tables };

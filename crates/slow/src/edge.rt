@@ -29,9 +29,13 @@ fn written(tag: &Tag, state: &State, word: usize) -> Level {
 
 // A bit of a RAM word after the edge, by whether the word is written.
 fn ram_after(tag: &Tag, state: &State, written: Level, word: usize, place: usize) -> Level {
-    let offered = state.at(tag.written.get(place).copied().unwrap_or(0));
     let held = state.at(tag.ram_place(word, place));
-    written.choose(offered, held)
+    if written.allows(true) {
+        let offered = state.at(tag.written.get(place).copied().unwrap_or(0));
+        written.choose(offered, held)
+    } else {
+        held
+    }
 }
 
 // A net after the edge; a gate is still as it was, and settles later.
@@ -52,9 +56,8 @@ fn net_after(tag: &Tag, state: &State, number: usize, net: &Net) -> Level {
 // The state after the edge, gates not settled.
 pub(crate) fn edge(tag: &Tag, state: &State, heap: Global) -> Result<State, AllocError> {
     let nets = tag.nets.iter().enumerate();
-    let mut levels: Vec<Level> = nets
-        .map(|(number, net)| net_after(tag, state, number, net))
-        .collect(heap)?;
+    let mut levels = Vec::with_capacity(heap, tag.places())?;
+    levels.extend(nets.map(|(number, net)| net_after(tag, state, number, net)))?;
     for word in 0..tag.ram.len() {
         let written = written(tag, state, word);
         levels.extend((0..16).map(|place| ram_after(tag, state, written, word, place)))?;

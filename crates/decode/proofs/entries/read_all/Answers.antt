@@ -1,7 +1,7 @@
-use Rattle.std.proofs.Common.{drop, replicate, Some, sym, ap, ◌∙◌, arith}
+use Rattle.std.proofs.Common.{Some, sym, ap, ◌∙◌, arith}
 use Rattle.std.proofs.lemmas.Result.{err_from_is_err_and}
 use Rattle.bundle.specs.declared.refusal.Refusal.{Refusal}
-use Rattle.decode.proofs.Asking.{room_long, reading_more, reading_stop, reading_all, reading_table}
+use Rattle.decode.proofs.Asking.{reading_more, reading_stop, reading_all, reading_table}
 use Rattle.decode.proofs.Refusing.{none_from_err, handed_on}
 use Rattle.decode.proofs.entries.read_all.Goals as goal
 
