@@ -3,14 +3,13 @@ use crate::level::Level;
 use crate::state::State;
 use slow_tag::{Cell, Tag};
 
-// The most over all bits that a net may have before and after.
+// The most over all bits that a net may have before and after: a net that keeps its bit draws nothing.
 fn most(cell: &Cell, before: Level, after: Level) -> u32 {
-    [(false, false), (false, true), (true, false), (true, true)]
-        .iter()
-        .filter(|(from, to)| before.allows(*from) && after.allows(*to))
-        .map(|(from, to)| cell.toggle(*from, *to))
-        .max()
-        .unwrap_or(0)
+    let rise = before.allows(false) && after.allows(true);
+    let fall = before.allows(true) && after.allows(false);
+    let rise = if rise { cell.toggle(false, true) } else { 0 };
+    let fall = if fall { cell.toggle(true, false) } else { 0 };
+    rise.max(fall)
 }
 
 // The charge of a step from one state to another.
