@@ -1,3 +1,4 @@
 pub mod Answer
+pub mod Memory
 pub mod Rules
 pub mod Tally

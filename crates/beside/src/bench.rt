@@ -1,4 +1,8 @@
 // The library's exploration, with the memory that is lent to it.
+ghost use Rattle.std.specs.Prelude.{IfOk};
+ghost use Rattle.explore.specs.Calls.{Empty};
+ghost use Rattle.beside.specs.Memory.{Fresh};
+
 use crate::answer::Answer;
 use crate::memory::{Lengths, Lent, Memory, Rows};
 use crate::rule::Rule;
@@ -16,7 +20,10 @@ pub struct Bench {
 
 impl Bench {
     // An exploration not yet made, and memory of these lengths.
-    pub fn new(lengths: Lengths, heap: Global) -> Result<Bench, AllocError> {
+    pub fn new(lengths: Lengths, heap: Global) -> Result<Bench, AllocError>
+        ensures exploration { IfOk result (λ bench. Empty 1 0 0 0 1026 bench.exploration) }
+        ensures memory { IfOk result (λ bench. Fresh lengths bench.memory) }
+    {
         Ok(Bench {
             exploration: Exploration::new(),
             memory: Memory::new(lengths, heap)?,

@@ -1,5 +1,6 @@
 // The memory that is lent to the library.
 ghost use Rattle.std.specs.Prelude.{◌≡◌, ◌↔◌, IsTrue, IfOk, All, vec_len};
+ghost use Rattle.beside.specs.Memory.{Fresh};
 
 use levels::Tri;
 use record::Point;
@@ -55,7 +56,9 @@ fn all_or_short<T>(places: &mut [T], short: bool) -> &mut [T] {
 
 impl Memory {
     // Memory of these lengths, in which anything may stand.
-    pub(crate) fn new(lengths: Lengths, heap: Global) -> Result<Memory, AllocError> {
+    pub(crate) fn new(lengths: Lengths, heap: Global) -> Result<Memory, AllocError>
+        ensures { IfOk result (λ memory. Fresh lengths memory) }
+    {
         Ok(Memory {
             points: vec![in heap; Point::default(); lengths.points]?,
             opened: vec![in heap; Tri::Zero; lengths.opened]?,
