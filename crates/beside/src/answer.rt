@@ -4,6 +4,7 @@ ghost use Rattle.beside.specs.declared.answer.Answer.TheVariants.{Value, Walked,
 ghost use Rattle.beside.specs.declared.answer.Answer.TheVariants as answer;
 ghost use Rattle.beside.specs.declared.answer.Refusal.{Refusal};
 ghost use Rattle.beside.specs.declared.answer.Ending.{Ending};
+ghost use Rattle.beside.specs.Sides.{slow_point};
 ghost use Rattle.beside.specs.Answer.{refusal_of, answered_of, library_refusal, slow_refusal, library_ending, slow_ending};
 
 use explore::Figures;
@@ -160,7 +161,9 @@ pub fn answered<T>(
 
 // A point of the library's record as the slow simulator has it.
 // Why no From: neither type is of this crate. The same holds of a level.
-pub(crate) fn point_of(point: &record::Point) -> slow::Point {
+pub(crate) fn point_of(point: &record::Point) -> slow::Point
+    ensures { result ≡ slow_point point.now }
+{
     slow::Point {
         origin: match point.origin {
             Origin::Start => None,

@@ -3,6 +3,7 @@
 
 mod answer;
 mod bench;
+mod lent;
 mod memory;
 mod pair;
 mod rule;

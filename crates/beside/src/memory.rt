@@ -39,21 +39,6 @@ pub struct Memory {
     pub short: Option<Part>,
 }
 
-// What is lent to a call of the library.
-#[derive(Drop)]
-pub(crate) struct Lent<'a> {
-    pub(crate) points: &'a mut [Point],
-    pub(crate) opened: &'a mut [Tri],
-    pub(crate) kept: &'a mut [Tri],
-    pub(crate) scratch: &'a mut [Tri],
-}
-
-// The places that are lent, all or all but the last.
-fn all_or_short<T>(places: &mut [T], short: bool) -> &mut [T] {
-    let count = places.len().saturating_sub(usize::from(short));
-    &mut places[..count]
-}
-
 impl Memory {
     // Memory of these lengths, in which anything may stand.
     pub(crate) fn new(lengths: Lengths, heap: Global) -> Result<Memory, AllocError>
@@ -66,17 +51,6 @@ impl Memory {
             scratch: vec![in heap; Tri::Zero; lengths.scratch]?,
             short: None,
         })
-    }
-
-    // The parts that are lent to a call.
-    pub(crate) fn lend(&mut self) -> Lent<'_> {
-        let short = self.short;
-        Lent {
-            points: all_or_short(&mut self.points, short == Some(Part::Points)),
-            opened: all_or_short(&mut self.opened, short == Some(Part::Opened)),
-            kept: all_or_short(&mut self.kept, short == Some(Part::Kept)),
-            scratch: all_or_short(&mut self.scratch, short == Some(Part::Scratch)),
-        }
     }
 }
 
@@ -96,13 +70,6 @@ impl Rows {
             row: vec![in heap; 7; row]?,
             other: vec![in heap; 9; other]?,
         })
-    }
-
-    pub(crate) fn lend(&mut self) -> figures::Rows<'_> {
-        figures::Rows {
-            row: &mut self.row,
-            other: &mut self.other,
-        }
     }
 
     // Are they all 0?

@@ -1,4 +1,17 @@
 // An exploration by the library and one by the slow simulator, side by side.
+ghost use Rattle.std.specs.Prelude.{◌≡◌, ◌++◌, ◌↔◌, ℕ, is_some, IsTrue, IsOk, IfOk, take, vec_len};
+ghost use Rattle.design.specs.Views.{core};
+ghost use Rattle.explore.specs.Calls.{Starts, Walks, Peaks, Windows, Figured};
+ghost use Rattle.beside.specs.declared.answer.Answer.{Answer};
+ghost use Rattle.beside.specs.declared.answer.Answer.TheVariants.{Value};
+ghost use Rattle.beside.specs.declared.answer.Answer.TheVariants as answer;
+ghost use Rattle.beside.specs.declared.memory.Rows.{Rows};
+ghost use Rattle.beside.specs.Answer.{refusal_of};
+ghost use Rattle.beside.specs.Lent.{held, Unlent, answer_of, walk_answer, Answers, taken};
+ghost use Rattle.beside.specs.Memory.{RowsOf};
+ghost use Rattle.beside.specs.Sides.{SamePoints, Alike};
+ghost use Rattle.beside.specs.Rules.{rule_of, meaning_of};
+
 use crate::answer::{Answer, Ending, answered, level_of, point_of};
 use crate::bench::Bench;
 use crate::memory::Rows;
@@ -32,6 +45,13 @@ pub struct Pair<'a> {
     pub heap: Global,
 }
 
+// Why a function: what `==` on points of another crate says is not known of a closure.
+fn same_point(point: slow::Point, other: &slow::Point) -> bool
+    ensures { IsTrue result ↔ (point ≡ other.now) }
+{
+    point == *other
+}
+
 // Are these levels, from a place on, those of a state?
 fn is_state(levels: &[Tri], first: usize, state: &[Level]) -> bool {
     let end = first.saturating_add(state.len());
@@ -45,15 +65,20 @@ fn is_state(levels: &[Tri], first: usize, state: &[Level]) -> bool {
 
 impl Pair<'_> {
     // Do both records have the same points, in the same number?
-    fn same_points(&self) -> bool {
+    fn same_points(&self) -> bool
+        ensures { IsTrue result ↔ SamePoints self.now.bench.exploration.point_count self.now.bench.memory.points.items self.now.record.points.items }
+    {
         let count = self.bench.exploration.point_count();
-        count == self.record.points.len()
-            && self.bench.memory.points.get(..count).is_some_and(|points| {
-                points
-                    .iter()
-                    .zip(self.record.points.iter())
-                    .all(|(point, other)| point_of(point) == *other)
-            })
+        let Some(points) = self.bench.memory.points.get(..count) else {
+            return false;
+        };
+        let others = &self.record.points;
+        count == others.len()
+            && points
+                .iter()
+                .map(|point| point_of(point))
+                .zip(others.iter())
+                .all(|(point, other)| same_point(point, other))
     }
 
     // Is each kept state in its entry's stretch?
@@ -79,7 +104,9 @@ impl Pair<'_> {
     }
 
     // Holds all that is recorded side by side.
-    pub fn compare(&self, tally: &mut Tally) -> Result<(), Stop> {
+    pub fn compare(&self, tally: &mut Tally) -> Result<(), Stop>
+        ensures { IsOk result → Alike self.now.bench self.now.record }
+    {
         tally.agree(Case::Points, self.same_points(), "the record")?;
         let same = self.same_kept() && self.same_opened();
         tally.agree(Case::States, same, "the states")?;
@@ -87,7 +114,15 @@ impl Pair<'_> {
     }
 
     // Takes a start in both.
-    pub fn start(&mut self, number: usize, tally: &mut Tally) -> Result<(), Stop> {
+    pub fn start(&mut self, number: usize, tally: &mut Tally) -> Result<(), Stop>
+        ensures library { IfOk result (λ _. (library : Answer)
+            × Answers (answer_of (λ point. Value point)) (Starts (core self.old.design.now) number (held self.old.bench) (held self.new.bench)) library
+            × (self.new.starts.items ≡ self.old.starts.items ++ taken number library)) }
+        ensures alike { IsOk result → Alike self.new.bench self.new.record }
+        ensures unlent { Unlent self.old.bench.memory self.new.bench.memory }
+        ensures earlier { take (vec_len self.old.starts) self.new.starts.items ≡ self.old.starts.items }
+        ensures stays { (self.new.refused ≡ self.old.refused) × (self.new.design ≡ self.old.design) × (self.new.tag ≡ self.old.tag) }
+    {
         let library = self.bench.start(self.design, number);
         let slow = answered(self.record.start(self.tag, number, self.heap))?;
         if let Ok(point) = slow {
@@ -108,7 +143,14 @@ impl Pair<'_> {
         rule: N,
         budget: u16,
         tally: &mut Tally,
-    ) -> Result<Answer, Stop> {
+    ) -> Result<Answer, Stop>
+        ensures library { (number : ℕ) × N.Into.converts rule number × IfOk result (Answers walk_answer
+            (Walks (core self.old.design.now) (meaning_of (rule_of number)) budget (held self.old.bench) (held self.new.bench))) }
+        ensures refused { IfOk result (λ answer. self.new.refused ≡ is_some (refusal_of answer)) }
+        ensures alike { IsOk result → Alike self.new.bench self.new.record }
+        ensures unlent { Unlent self.old.bench.memory self.new.bench.memory }
+        ensures stays { (self.new.starts ≡ self.old.starts) × (self.new.design ≡ self.old.design) × (self.new.tag ≡ self.old.tag) }
+    {
         let number: usize = rule.into();
         let rule = Rule::from(number);
         let library = self.bench.walk(self.design, rule, budget);
@@ -127,7 +169,14 @@ impl Pair<'_> {
     }
 
     // The peak of both.
-    pub fn peak(&mut self, tally: &mut Tally) -> Result<Answer, Stop> {
+    pub fn peak(&mut self, tally: &mut Tally) -> Result<Answer, Stop>
+        ensures library { IfOk result (Answers (answer_of (λ most. Value most))
+            (Peaks (core self.old.design.now) (held self.old.bench) (held self.new.bench))) }
+        ensures alike { IsOk result → Alike self.new.bench self.new.record }
+        ensures unlent { Unlent self.old.bench.memory self.new.bench.memory }
+        ensures stays { (self.new.record ≡ self.old.record) × (self.new.starts ≡ self.old.starts) × (self.new.refused ≡ self.old.refused)
+            × (self.new.design ≡ self.old.design) × (self.new.tag ≡ self.old.tag) }
+    {
         let library = self.bench.peak(self.design);
         let slow = Answer::from(self.record.peak().map(u64::from));
         tally.note(library);
@@ -137,13 +186,23 @@ impl Pair<'_> {
     }
 
     // Rows that have `more` places than points in use.
-    fn rows(&self, more: usize) -> Result<Rows, AllocError> {
+    fn rows(&self, more: usize) -> Result<Rows, AllocError>
+        ensures { IfOk result (RowsOf self.now.record more) }
+    {
         let length = self.record.points.len().saturating_add(more);
         Rows::new(length, length, self.heap)
     }
 
     // The window of both, over rows that have `more` places than points in use.
-    pub fn window(&mut self, width: u16, more: usize, tally: &mut Tally) -> Result<Answer, Stop> {
+    pub fn window(&mut self, width: u16, more: usize, tally: &mut Tally) -> Result<Answer, Stop>
+        ensures library { IfOk result (Answers (answer_of (λ most. Value most))
+            (λ most. (rows : Rows) × (after : Rows) × RowsOf self.old.record more rows × Windows (core self.old.design.now) width
+            (held self.old.bench) rows.row.items rows.other.items (held self.new.bench) after.row.items after.other.items most)) }
+        ensures alike { IsOk result → Alike self.new.bench self.new.record }
+        ensures unlent { Unlent self.old.bench.memory self.new.bench.memory }
+        ensures stays { (self.new.record ≡ self.old.record) × (self.new.starts ≡ self.old.starts) × (self.new.refused ≡ self.old.refused)
+            × (self.new.design ≡ self.old.design) × (self.new.tag ≡ self.old.tag) }
+    {
         let mut rows = self.rows(more)?;
         let library = self.bench.window(self.design, width, &mut rows);
         let slow = answered(self.record.window(width as usize, self.heap))?;
@@ -158,7 +217,15 @@ impl Pair<'_> {
     }
 
     // Peak and window of both together.
-    pub fn figures(&mut self, width: u16, tally: &mut Tally) -> Result<(), Stop> {
+    pub fn figures(&mut self, width: u16, tally: &mut Tally) -> Result<(), Stop>
+        ensures library { IfOk result (λ _. (library : Answer) × (rows : Rows) × (after : Rows) × RowsOf self.old.record 0 rows
+            × Answers (answer_of (λ both. answer.Figures both.peak both.window)) (Figured (core self.old.design.now) width
+            (held self.old.bench) rows.row.items rows.other.items (held self.new.bench) after.row.items after.other.items) library) }
+        ensures alike { IsOk result → Alike self.new.bench self.new.record }
+        ensures unlent { Unlent self.old.bench.memory self.new.bench.memory }
+        ensures stays { (self.new.record ≡ self.old.record) × (self.new.starts ≡ self.old.starts) × (self.new.refused ≡ self.old.refused)
+            × (self.new.design ≡ self.old.design) × (self.new.tag ≡ self.old.tag) }
+    {
         let mut rows = self.rows(0)?;
         let library = self.bench.figures(self.design, width, &mut rows);
         let window = answered(self.record.window(width as usize, self.heap))?;

@@ -1,0 +1,22 @@
+use Rattle.std.proofs.Common.{ℕ, take, ap, subst₂}
+use Rattle.explore.specs.Memory.{Memory as Held}
+use Rattle.explore.specs.Calls.{Peaks}
+use Rattle.design.specs.Views.{core}
+use Rattle.beside.specs.declared.memory.Part.TheVariants as part
+use Rattle.beside.proofs.Parts.{lent_after, keeps_rest, held_equal}
+use Rattle.beside.proofs.lent.peak.Goals as goal
+
+pub returns-clause-peak : goal.returns-clause-peak
+returns-clause-peak c =
+    let points = ap (λ (n : ℕ). take n c.args.points.now) c.lent_count.ensures in
+    let opened = ap (λ (n : ℕ). take n c.args.opened.now) c.lent_count-2.ensures in
+    let kept = ap (λ (n : ℕ). take n c.args.kept.now) c.lent_count-3.ensures in
+    subst₂ (λ (before after : Held). Peaks (core c.args.design.now) before after c.peak.result)
+    (held_equal c.args.exploration.now c.args.short c.args.points.now c.args.opened.now c.args.kept.now c.args.scratch.now points opened kept
+    (ap (λ (n : ℕ). take n c.args.scratch.now) c.lent_count-scratch_count.ensures))
+    (held_equal c.args.exploration.now c.args.short c.args.points.now c.args.opened.now c.args.kept.now _ points opened kept
+    (lent_after c.args.short part.Scratch _ c.peak.new.scratch c.args.scratch.now c.lent_count-scratch_count.ensures c.peak.auto.scratch))
+    c.peak.ensures
+
+pub returns-clause-rest : goal.returns-clause-rest
+returns-clause-rest c = keeps_rest c.args.short part.Scratch _ c.peak.new.scratch c.args.scratch.now c.lent_count-scratch_count.ensures c.peak.auto.scratch
